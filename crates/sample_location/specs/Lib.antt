@@ -1,0 +1,2 @@
+-- What the contracts of `sample_location` cite. Location: what each call answers.
+pub mod Location

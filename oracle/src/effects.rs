@@ -1,0 +1,99 @@
+//! The sampler's five files, each with what lays its private state open.
+
+/// The files name their queue's ends through `Channel`; std's has the same words.
+pub use std::sync::mpsc as Channel;
+
+pub mod utility {
+    mod event_processor {
+        include!("../rawdio/src/effects/utility/event_processor.rs");
+
+        impl<Event: EventProcessorEvent> EventProcessor<Event> {
+            /// The queue, in order.
+            pub fn pending(&self) -> &[Event] {
+                &self.pending_events
+            }
+        }
+    }
+
+    pub use event_processor::{EventProcessor, EventProcessorEvent};
+}
+
+pub mod sampler {
+    mod sampler_event {
+        include!("../rawdio/src/effects/sampler/sampler_event.rs");
+    }
+
+    mod sampler_fade {
+        include!("../rawdio/src/effects/sampler/sampler_fade.rs");
+
+        impl Fade {
+            /// A table with given entries: the file itself makes only the sine's.
+            pub fn from_entries(entries: &[f32]) -> Self {
+                Self { values: entries.to_vec() }
+            }
+        }
+    }
+
+    mod sampler_voice {
+        include!("../rawdio/src/effects/sampler/sampler_voice.rs");
+
+        /// `Phase` is private to the file; this is its likeness.
+        #[derive(Clone, Copy, Debug, PartialEq)]
+        pub enum VoicePhase {
+            Stopped,
+            FadingIn(usize),
+            Playing,
+            FadingOut(usize),
+        }
+
+        impl Voice {
+            pub fn phase(&self) -> VoicePhase {
+                match self.phase {
+                    Phase::Stopped => VoicePhase::Stopped,
+                    Phase::FadingIn(position) => VoicePhase::FadingIn(position),
+                    Phase::Playing => VoicePhase::Playing,
+                    Phase::FadingOut(position) => VoicePhase::FadingOut(position),
+                }
+            }
+        }
+    }
+
+    mod sampler_processor {
+        include!("../rawdio/src/effects/sampler/sampler_processor.rs");
+
+        /// What a leg keeps from block to block, but for its queue. The rest of it never changes.
+        #[derive(Clone, Debug, PartialEq)]
+        pub struct Player {
+            pub voices: Vec<(super::VoicePhase, usize)>,
+            pub active: Option<usize>,
+            pub loop_points: Option<(Timestamp, Timestamp)>,
+            pub position: Timestamp,
+            pub start_position: Timestamp,
+            pub completed_loops: usize,
+        }
+
+        impl SamplerDspProcess {
+            pub fn player(&self) -> Player {
+                let voices = self.voices.iter();
+
+                Player {
+                    voices: voices.map(|v| (v.phase(), v.get_position())).collect(),
+                    active: self.active_voice,
+                    loop_points: self.loop_points,
+                    position: self.position,
+                    start_position: self.start_position_in_sample,
+                    completed_loops: self.completed_loops,
+                }
+            }
+
+            pub fn pending(&self) -> &[SamplerEvent] {
+                self.event_processor.pending()
+            }
+        }
+    }
+
+    pub use sampler_event::{SampleEventType, SamplerEvent};
+    pub use sampler_fade::Fade;
+    pub use sampler_processor::{EventReceiver, EventTransmitter, Player, SamplerDspProcess};
+    pub use sampler_voice::{Voice, VoicePhase};
+}
