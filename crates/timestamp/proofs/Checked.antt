@@ -43,7 +43,6 @@ module _ (a limit result : ℤ) (p q : ℕ) (Fa : SFits w64 a) (moved : Minus re
       }
 
 module _ (a b : ℤ) (Fa : SFits w64 a) (Fb : SFits w64 b) where
-
   abbrev Up : Type 0
   Up = (below b ≤ above b) × (above b ≤ below b + 2 ^ 63)
 

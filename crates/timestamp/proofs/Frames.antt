@@ -103,31 +103,6 @@ frames-multiple R t = grid-multiple binary64 (t * R) (2 ^ 32) (t * R) 1042 (pow-
 pub frames-off : (R t : ℕ) → Off 8 (framesN R t) (t * step R) (t * step R)
 frames-off R t = off-first (framesN R t) (t * step R) (frames-rounded R t)
 
--- ---- S-mono, for the nearest frame (negative: 0) and for the whole part
-halves : (a b l : ℕ) → a ≤ b → (2 * a + l) * (2 * l) ≤ (2 * b + l) * (2 * l)
-halves a b l h = mul-le-mul-right (2 * l) (go a b l h)
-  where
-    go : (a b l : ℕ) → a ≤ b → 2 * a + l ≤ 2 * b + l
-    go a b l h = omega arith
-
-pub S-floor-mono : (R t u : ℕ) → R < 2 ^ 53 → u < 2 ^ 53 → t ≤ u → floorOf (framesOf R (pos t)) ≤ floorOf (framesOf R (pos u))
-S-floor-mono R t u r h k =
-    let l = 2 ^ low binary64 in
-    subst₂ (λ (x y : ℕ). x ≤ y) (sym (floorOf-at (framesOf R (pos t)) (framesN R t) l (pow-pos 1074) (S-value R t r (lt-of-le-of-lt k h)))) (sym (floorOf-at (framesOf R (pos u)) (framesN R u) l (pow-pos 1074) (S-value R u r h)))
-    (div-mono (framesN R t) l (framesN R u) l (pow-pos 1074) (pow-pos 1074) (mul-le-mul-right l (framesN-mono R t u k)))
-
-pub S-round-mono : (R t u : ℕ) → R < 2 ^ 53 → u < 2 ^ 53 → t ≤ u → roundOf (framesOf R (pos t)) ≤ roundOf (framesOf R (pos u))
-S-round-mono R t u r h k =
-    let l = 2 ^ low binary64 in
-    subst₂ (λ (x y : ℕ). x ≤ y) (sym (roundOf-at (framesOf R (pos t)) (framesN R t) l (pow-pos 1074) (S-value R t r (lt-of-le-of-lt k h)))) (sym (roundOf-at (framesOf R (pos u)) (framesN R u) l (pow-pos 1074) (S-value R u r h)))
-    (div-mono (2 * framesN R t + l) (2 * l) (2 * framesN R u + l) (2 * l) (pow-pos 1075) (pow-pos 1075) (halves (framesN R t) (framesN R u) l (framesN-mono R t u k)))
-
--- a time of either sign
-pub S-mono : (R : ℕ) (t u : ℤ) → R < 2 ^ 53 → natAbs t < 2 ^ 53 → natAbs u < 2 ^ 53 → T (leZ t u) → roundOf (framesOf R t) ≤ roundOf (framesOf R u)
-S-mono R (pos t) (pos u) r a b h = S-round-mono R t u r b (leb→le t u h)
-S-mono R (pos t) (negsuc u) r a b h = absurd h
-S-mono R (negsuc t) u r a b h = subst (λ (z : ℕ). z ≤ roundOf (framesOf R u)) (sym (roundOf-neg (framesOf R (negsuc t)) (framesN R (suc t)) (2 ^ low binary64) (S-value-neg R t r a))) zero-le
-
 -- ---- back again: the nearest frame to T of x is x
 pub near-frame : (R x t : ℕ) → R < 2 ^ 18 → Near t (x * 2 ^ 32) R → (2 * (t * R) + 2 ^ 32) / 2 ^ 33 ≡ x
 near-frame R x t r n = omega arith
@@ -182,7 +157,7 @@ module _ (R : ℕ) (s : Bool) (n : ℕ) (r : R < 2 ^ 18) (h : n ≤ 2 ^ 63) wher
       mul-at binary64 (round binary64 s n (2 ^ 32)) (ofInt binary64 (pos R)) s false (grid binary64 n (2 ^ 32)) L R 1 (pow-pos 1074) (zero-lt-suc 0) in-seconds (whole-value R (lt-of-lt-of-le r (lit≤ tt)))
       ∙ ap (λ (b : Bool). round binary64 b (grid binary64 n (2 ^ 32) * R) (L * 1)) (like-plus s)
 
-  in-frames : HasValue (mul binary64 (round binary64 s n (2 ^ 32)) (ofInt binary64 (pos R))) s (grid binary64 (grid binary64 n (2 ^ 32) * R) (L * 1)) L
+  pub in-frames : HasValue (mul binary64 (round binary64 s n (2 ^ 32)) (ofInt binary64 (pos R))) s (grid binary64 (grid binary64 n (2 ^ 32) * R) (L * 1)) L
   in-frames = subst (λ (x : Float). HasValue x s (grid binary64 (grid binary64 n (2 ^ 32) * R) (L * 1)) L) (sym product)
       (round-value binary64 s (grid binary64 n (2 ^ 32) * R) (L * 1) (no-overflow binary64 (grid binary64 n (2 ^ 32) * R) (L * 1) 51 (pow-pos 1074) (lit≤ tt) (lit≤ tt) few))
 

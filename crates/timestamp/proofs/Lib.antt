@@ -1,8 +1,15 @@
+-- Facts on T and S for callers to cite, as `Rattle.timestamp.proofs.Time.{T-once}`, over every rate R in range (most for 0 < R < 2 ^ 18).
+-- Values: what a float is as a time and as whole frames. Time: T-once, T-near, T-wide, T-fits. Frames: S-exact, S-floor, S-round, S-near, S-T (back again), S-below.
 pub mod Values
 pub mod Time
 pub mod Frames
+-- Monotone: T and S are monotone. Loop: E in whole numbers (E-exact), and late beyond (E-late). Fade: the fade length. Table: m1 to m4.
+pub mod Monotone
 pub mod Loop
+pub mod Fade
 pub mod Table
+-- How the code meets the definitions. Rate: number 1's rule. Checked: sums with a test first. Counts: cut and rounded frames. Fixed: seconds to units.
+pub mod Rate
 pub mod Checked
 pub mod Counts
 pub mod Fixed

@@ -119,9 +119,6 @@ T-value R x r r' h = time-value R (ofInt binary64 (pos x)) false x 1 r r' (zero-
     le-mul : (R : ℕ) → 0 < R → 2 ^ 53 ≤ 2 ^ 53 * (R * 1)
     le-mul R r = omega arith
 
-pub T-mono : (R x y : ℕ) → 0 < R → x ≤ y → timeN R x 1 ≤ timeN R y 1
-T-mono R x y r h = timeN-mono R x 1 y 1 r (zero-lt-suc 0) (zero-lt-suc 0) (mul-le-mul-right 1 h)
-
 -- whole frames of any size, where the count itself may be rounded on its way to a float
 pub T-any : (R x : ℕ) → 0 < R → R < 2 ^ 53 → x < 2 ^ 1000 → timeOf R x ≡ pos (timeN R (grid binary64 x 1) (2 ^ low binary64))
 unfolding timeOf ofInt
@@ -131,11 +128,6 @@ T-any R x r r' h =
     time-value R (round binary64 false x 1) false g (2 ^ 1074) r r' (pow-pos 1074) (round-value binary64 false x 1 (no-overflow binary64 x 1 1000 (zero-lt-suc 0) (lit≤ tt) (lit≤ tt) small))
     (no-overflow binary64 g (R * 2 ^ 1074) 1001 (mul-pos r (pow-pos 1074)) (lit≤ tt) (lit≤ tt)
     (lt-of-le-of-lt (grid-le binary64 x 1 1000 (zero-lt-suc 0) (lit≤ tt) small) (lt-of-lt-of-le (lit≤ tt) (mul-le-mul-left (2 ^ 1001) (mul-le-mul-right (2 ^ 1074) r)))))
-
-pub T-any-mono : (R x y : ℕ) → 0 < R → x ≤ y → timeN R (grid binary64 x 1) (2 ^ low binary64) ≤ timeN R (grid binary64 y 1) (2 ^ low binary64)
-T-any-mono R x y r h =
-    timeN-mono R (grid binary64 x 1) (2 ^ 1074) (grid binary64 y 1) (2 ^ 1074) r (pow-pos 1074) (pow-pos 1074)
-    (mul-le-mul-right (2 ^ 1074) (grid-mono binary64 x 1 y 1 (zero-lt-suc 0) (zero-lt-suc 0) (mul-le-mul-right 1 h)))
 
 -- ---- T-wide: beyond 8 seconds T may be rounded twice, and is within half a unit and 2 ^ -53 of the time
 -- 2 ^ 21 * |t * R - x * 2 ^ 32| ≤ 2 ^ 20 * R + x

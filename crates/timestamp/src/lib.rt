@@ -15,7 +15,7 @@ ghost use lib.Ieee.Nearest.{closest};
 ghost use lib.Ieee.Scale.{finite};
 ghost use Rattle.timestamp.specs.declared.Timestamp.{Timestamp};
 ghost use Rattle.timestamp.specs.Time.{seconds, framesOf, floorOf, roundOf, frameAt, frameNear, timeOf};
-ghost use Rattle.timestamp.specs.Answer.{order, minus, plus, fromSeconds, fromSamples, fromBeats, asSamples, asBeats, movedBy, incrementedBySamples, incrementedBySeconds, incrementedByBeats};
+ghost use Rattle.timestamp.specs.Answer.{inRate, refused, order, minus, plus, fromSeconds, fromSamples, fromBeats, asSamples, asBeats, movedBy, incrementedBySamples, incrementedBySeconds, incrementedByBeats};
 
 pub struct Timestamp {
     pub bits: i64,
@@ -37,6 +37,24 @@ pub enum Order {
     Less,
     Equal,
     Greater,
+}
+
+// ---- the two rules of document 01
+
+// Number 1 is for the other rates.
+fn in_rate(rate: usize) -> bool
+    ensures { λ r. ⌜ r ≡ inRate rate ⌝ }
+{
+    (8000 <= rate) & (rate <= 96000)
+}
+
+fn refusal(number: u8) -> TimeAnswer
+    ensures { λ r. ⌜ r ≡ refused number ⌝ }
+{
+    TimeAnswer {
+        number,
+        time: Timestamp { bits: 0 },
+    }
 }
 
 // ---- floats and whole numbers
@@ -124,15 +142,21 @@ fn sum_of(a: i64, b: i64) -> TimeAnswer
 {
     if b >= 0 {
         if a <= 9223372036854775807 - b {
-            TimeAnswer { number: 0, time: Timestamp { bits: a + b } }
+            TimeAnswer {
+                number: 0,
+                time: Timestamp { bits: a + b },
+            }
         } else {
-            TimeAnswer { number: 15, time: Timestamp { bits: 0 } }
+            refusal(15)
         }
     } else {
         if a >= -9223372036854775808 - b {
-            TimeAnswer { number: 0, time: Timestamp { bits: a + b } }
+            TimeAnswer {
+                number: 0,
+                time: Timestamp { bits: a + b },
+            }
         } else {
-            TimeAnswer { number: 15, time: Timestamp { bits: 0 } }
+            refusal(15)
         }
     }
 }
@@ -142,15 +166,21 @@ fn difference_of(a: i64, b: i64) -> TimeAnswer
 {
     if b >= 0 {
         if a >= -9223372036854775808 + b {
-            TimeAnswer { number: 0, time: Timestamp { bits: a - b } }
+            TimeAnswer {
+                number: 0,
+                time: Timestamp { bits: a - b },
+            }
         } else {
-            TimeAnswer { number: 15, time: Timestamp { bits: 0 } }
+            refusal(15)
         }
     } else {
         if a <= 9223372036854775807 + b {
-            TimeAnswer { number: 0, time: Timestamp { bits: a - b } }
+            TimeAnswer {
+                number: 0,
+                time: Timestamp { bits: a - b },
+            }
         } else {
-            TimeAnswer { number: 15, time: Timestamp { bits: 0 } }
+            refusal(15)
         }
     }
 }
@@ -232,34 +262,41 @@ impl Timestamp {
         if y > 0.0 {
             if y < 2147483648.0 {
                 let n = to_units(y);
-                TimeAnswer { number: 0, time: Timestamp { bits: n as i64 } }
+                TimeAnswer {
+                    number: 0,
+                    time: Timestamp { bits: n as i64 },
+                }
             } else {
-                TimeAnswer { number: 15, time: Timestamp { bits: 0 } }
+                refusal(15)
             }
         } else if y < 0.0 {
             if y >= -2147483648.0 {
                 let n = negative(to_units(-y));
-                TimeAnswer { number: 0, time: Timestamp { bits: n } }
+                TimeAnswer {
+                    number: 0,
+                    time: Timestamp { bits: n },
+                }
             } else {
-                TimeAnswer { number: 15, time: Timestamp { bits: 0 } }
+                refusal(15)
             }
         } else if y != y {
-            TimeAnswer { number: 15, time: Timestamp { bits: 0 } }
+            refusal(15)
         } else {
-            TimeAnswer { number: 0, time: Timestamp { bits: 0 } }
+            TimeAnswer {
+                number: 0,
+                time: Timestamp { bits: 0 },
+            }
         }
     }
 
     pub fn from_samples(samples: f64, rate: usize) -> TimeAnswer
         ensures { λ r. ⌜ r ≡ fromSamples samples rate ⌝ }
     {
-        if rate < 8000 {
-            return TimeAnswer { number: 1, time: Timestamp { bits: 0 } };
+        if in_rate(rate) {
+            Timestamp::from_seconds(samples / (rate as f64))
+        } else {
+            refusal(1)
         }
-        if 96000 < rate {
-            return TimeAnswer { number: 1, time: Timestamp { bits: 0 } };
-        }
-        Timestamp::from_seconds(samples / (rate as f64))
     }
 
     pub fn from_beats(beats: f64, tempo: f64) -> TimeAnswer
@@ -268,7 +305,7 @@ impl Timestamp {
         if above_zero(tempo) {
             Timestamp::from_seconds(beats / (tempo / 60.0))
         } else {
-            TimeAnswer { number: 15, time: Timestamp { bits: 0 } }
+            refusal(15)
         }
     }
 
@@ -281,13 +318,17 @@ impl Timestamp {
     pub fn as_samples(self, rate: usize) -> FloatAnswer
         ensures { λ r. ⌜ r ≡ asSamples (self .bits) rate ⌝ }
     {
-        if rate < 8000 {
-            return FloatAnswer { number: 1, value: 0.0 };
+        if in_rate(rate) {
+            FloatAnswer {
+                number: 0,
+                value: frames_of(self, rate),
+            }
+        } else {
+            FloatAnswer {
+                number: 1,
+                value: 0.0,
+            }
         }
-        if 96000 < rate {
-            return FloatAnswer { number: 1, value: 0.0 };
-        }
-        FloatAnswer { number: 0, value: frames_of(self, rate) }
     }
 
     pub fn as_beats(self, tempo: f64) -> FloatAnswer
@@ -297,12 +338,21 @@ impl Timestamp {
         if above_zero(tempo) {
             let b = to_seconds(t) * (tempo / 60.0);
             if is_finite(b) {
-                FloatAnswer { number: 0, value: b }
+                FloatAnswer {
+                    number: 0,
+                    value: b,
+                }
             } else {
-                FloatAnswer { number: 15, value: 0.0 }
+                FloatAnswer {
+                    number: 15,
+                    value: 0.0,
+                }
             }
         } else {
-            FloatAnswer { number: 15, value: 0.0 }
+            FloatAnswer {
+                number: 15,
+                value: 0.0,
+            }
         }
     }
 

@@ -5,6 +5,7 @@ use mathlib.Core.Bool.{true, false}
 use lib.IntN.{ℤ, pos, negsuc, _+ℤ_, _-ℤ_}
 use lib.Signed.{mag, leZ}
 use borrow.Author.Tests.{lt-ltb}
+use borrow.Author.Needs.{needs}
 use mir.Syntax.{w64}
 use mir.Val.{SFits, toZ, ofZ}
 use mir.ValLaws.{toZ-ofZ}
@@ -47,20 +48,32 @@ add-t8 c = let s = c .before .before in simp (ea s, eb s) (high c)
 sub-if3 : tie.Need-sub-if3
 sub-if3 c = simp (eb (c .before)) (down c .limit-fits)
 
-add-t14 : tie.Need-add-t14
-add-t14 c = let s = c .before .before in simp (ea s, eb s) (low c)
+add-t13 : tie.Need-add-t13
+add-t13 c = let s = c .before .before in simp (ea s, eb s) (low c)
+
+refusal-requires : tie.Need-refusal-requires
+refusal-requires c κs = search needs
+
+refusal-requires-2 : tie.Need-refusal-requires-2
+refusal-requires-2 c κs = search needs
 
 returns : tie.Need-returns
 returns c = let s = c .before .before in simp (ea s, eb s, toZ-ofZ w64 _ (high c), lt-ltb _ _ (high c .sfits))
 
 returns-2 : tie.Need-returns-2
-returns-2 c = let s = c .before .before in simp (up (c .before) .outside (simp (eb s, ea s, toZ-ofZ w64 _ (up (c .before) .limit-fits)) at (c .if2 .left)))
+returns-2 c =
+    let s = c .before .before .before in
+    let u = up (c .before .before) in
+    c .refusal .ensures ∙ simp (u .outside (simp (eb s, ea s, toZ-ofZ w64 _ (u .limit-fits)) at (c .before .if2 .left)))
 
 returns-3 : tie.Need-returns-3
 returns-3 c = let s = c .before .before in simp (ea s, eb s, toZ-ofZ w64 _ (low c), lt-ltb _ _ (low c .sfits))
 
 returns-4 : tie.Need-returns-4
-returns-4 c = let s = c .before .before in simp (down (c .before) .outside (simp (eb s, ea s, toZ-ofZ w64 _ (down (c .before) .limit-fits)) at (c .if3 .left)))
+returns-4 c =
+    let s = c .before .before .before in
+    let d = down (c .before .before) in
+    c .refusal2 .ensures ∙ simp (d .outside (simp (eb s, ea s, toZ-ofZ w64 _ (d .limit-fits)) at (c .before .if3 .left)))
 
 pub sum-of-spec : {M : Type 1} → statement M
-sum-of-spec = tie.close (tie.spec sub-if2 add-t8 sub-if3 add-t14 returns returns-2 returns-3 returns-4)
+sum-of-spec = tie.close (tie.spec sub-if2 add-t8 refusal-requires sub-if3 add-t13 refusal-requires-2 returns returns-2 returns-3 returns-4)

@@ -18,13 +18,16 @@ above-zero-requires c κs = search needs
 from-seconds-requires : tie.Need-from-seconds-requires
 from-seconds-requires c κs = search needs
 
+refusal-requires : tie.Need-refusal-requires
+refusal-requires c κs = search needs
+
 returns : tie.Need-returns
 unfolding fromBeats frequency ofBits ofInt round
 returns c = c .from-seconds .ensures ∙ simp (sym (c .before .before .above-zero .ensures) ∙ c .before .if1 .taken)
 
 returns-2 : tie.Need-returns-2
 unfolding fromBeats
-returns-2 c = simp (sym (c .before .above-zero .ensures) ∙ c .if1 .left)
+returns-2 c = c .refusal .ensures ∙ simp (sym (c .before .before .above-zero .ensures) ∙ c .before .if1 .left)
 
 pub from-beats-spec : {M : Type 1} → statement M
-from-beats-spec = tie.close (tie.spec above-zero-requires from-seconds-requires returns returns-2)
+from-beats-spec = tie.close (tie.spec above-zero-requires from-seconds-requires refusal-requires returns returns-2)

@@ -42,12 +42,21 @@ to-units-requires-2 c κs = (low c .0, low c .1)
 negative-requires : tie.Need-negative-requires
 negative-requires c κs = subst (λ (k : ℕ). k ≤ 2 ^ 63) (sym (c .to-units2 .ensures)) (low (c .before) .2)
 
+refusal-requires : tie.Need-refusal-requires
+refusal-requires c κs = search needs
+
+refusal-requires-2 : tie.Need-refusal-requires-2
+refusal-requires-2 c κs = search needs
+
+refusal-requires-3 : tie.Need-refusal-requires-3
+refusal-requires-3 c κs = search needs
+
 returns : tie.Need-returns
 returns c = ap taken (toZ-pos w64 (c .to-units .result) (small c) ∙ ap pos (c .to-units .ensures)) ∙ sym (high (c .before) .3)
 
 returns-2 : tie.Need-returns-2
 unfolding ofBits neg
-returns-2 c = too-high (c .before .before .args .y) (yes (c .before .if1 .taken)) (no (c .if2 .left))
+returns-2 c = c .refusal .ensures ∙ too-high (c .before .before .before .args .y) (yes (c .before .before .if1 .taken)) (no (c .before .if2 .left))
 
 returns-3 : tie.Need-returns-3
 returns-3 c =
@@ -56,10 +65,12 @@ returns-3 c =
 
 returns-4 : tie.Need-returns-4
 unfolding ofBits neg
-returns-4 c = too-low (c .before .before .before .args .y) (held (c .before .before .before)) (yes (c .before .if3 .taken)) (no (c .if4 .left))
+returns-4 c =
+    let s = c .before .before .before .before in
+    c .refusal2 .ensures ∙ too-low (s .args .y) (held s) (yes (c .before .before .if3 .taken)) (no (c .before .if4 .left))
 
 returns-5 : tie.Need-returns-5
-returns-5 c = at-nan (c .before .before .before .args .y) (yes (c .if5 .taken))
+returns-5 c = c .refusal3 .ensures ∙ at-nan (c .before .before .before .before .args .y) (yes (c .before .if5 .taken))
 
 returns-6 : tie.Need-returns-6
 unfolding ofBits
@@ -71,8 +82,11 @@ from-seconds-spec =
     (tie.spec
     to-units-requires
     cast-t8
+    refusal-requires
     to-units-requires-2
     negative-requires
+    refusal-requires-2
+    refusal-requires-3
     returns
     returns-2
     returns-3
