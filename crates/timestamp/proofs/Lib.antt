@@ -8,6 +8,10 @@ pub mod Monotone
 pub mod Loop
 pub mod Fade
 pub mod Table
+-- Drift: a sum of T against its frames. Event: an event's frame in a block. Interval: the frames of a piece in whole numbers.
+pub mod Drift
+pub mod Event
+pub mod Interval
 -- How the code meets the definitions. Rate: number 1's rule. Checked: sums with a test first. Counts: cut and rounded frames. Fixed: seconds to units.
 pub mod Rate
 pub mod Checked

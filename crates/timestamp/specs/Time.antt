@@ -64,6 +64,13 @@ frameNear R t = roundOf (framesOf R t)
 
 -- ---- more
 
+-- the later and the earlier of two times
+abbrev pub later : ℤ → ℤ → ℤ
+later a b = cond (ltZ a b) b a
+
+abbrev pub earlier : ℤ → ℤ → ℤ
+earlier a b = cond (ltZ a b) a b
+
 -- "T(S(end−start position) + S(end−loop start)·completed), each f64 step rounded": E with a loop, `first` being end − start position and `length` end − loop start
 unfoldable pub loopEnd : ℕ → ℤ → ℤ → ℕ → ℤ
 unfolding time framesOf

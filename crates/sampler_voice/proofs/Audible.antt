@@ -1,0 +1,25 @@
+-- In a frame a voice adds one pair, or nothing.
+-- The idea: `sounded` by its phases says so; whether it adds is one Bool, and what it adds one pair. Assumes nothing.
+use Prim.Native.Nat.{ℕ}
+use mathlib.Core.Path.{_≡_, refl}
+use mathlib.Core.Bool.{Bool, true, false, cond}
+use mathlib.Core.List.{List}
+use lib.Dec.{ltb}
+use lib.Ieee.{Float}
+use Rattle.sampler_voice.specs.declared.Pair.{Pair}
+use Rattle.sampler_voice.specs.declared.Phase.{Phase}
+use Rattle.sampler_voice.specs.declared.Phase.the-variants.{Stopped, FadingIn, Playing, FadingOut}
+use Rattle.sampler_voice.specs.Sound.{fetched, added}
+use Rattle.sampler_voice.specs.Voices.{isStopped, faded, sounded}
+
+-- a phase that isn't Stopped, within a recording of rn frames
+abbrev pub audible : ℕ → Phase → ℕ → Bool
+audible rn ph p = cond (isStopped ph) false (ltb p rn)
+
+pub sounded-as : (rec : List Float) (rn : ℕ) (fade : List Float) (n : ℕ) (two : Bool) (ph : Phase) (p j : ℕ) (out : List Float)
+    → sounded rec rn fade n two ph p j out ≡ cond (audible rn ph p) (added n two j (faded fade ph (fetched rec rn two p)) out) out
+unfolding sounded
+sounded-as rec rn fade n two Stopped p j out = refl
+sounded-as rec rn fade n two (FadingIn i) p j out = refl
+sounded-as rec rn fade n two Playing p j out = refl
+sounded-as rec rn fade n two (FadingOut i) p j out = refl

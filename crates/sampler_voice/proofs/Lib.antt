@@ -1,0 +1,21 @@
+-- What the functions' proofs cite. Room: places in a planar list. Table: a lookup within the table. Audible: a frame adds one pair or nothing.
+pub mod Room
+pub mod Table
+pub mod Audible
+-- Step, Run: a loop's turn and its frames of one phase. Chunk, Ways: frames cut where a phase ends; pieces one after the other (`frames-add`); a Stopped voice (`stopped`).
+pub mod Step
+pub mod Run
+pub mod Chunk
+pub mod Ways
+-- What later layers lean on. Apart, Mix: voices one after the other, piece by piece and frame by frame. Phases, Moves: what frames make of a voice. Untouched: what they leave.
+pub mod Apart
+pub mod Mix
+pub mod Phases
+pub mod Moves
+pub mod Untouched
+-- Outputs stay finite. Bounds, RangeTests: floats of bounded size. SmallPair: a pair. Finite: a voice and a mix. Risen: the pieces of a call.
+pub mod Bounds
+pub mod RangeTests
+pub mod SmallPair
+pub mod Finite
+pub mod Risen

@@ -1,0 +1,68 @@
+-- `sampler_voice::Voices::render` meets its contract.
+-- The idea: a list of two voices is its two elements, and `mix` is one `frames` after the other. Assumes nothing.
+use mathlib.Core.Path.{_≡_, refl, sym, _∙_, ap}
+use mathlib.Core.List.{List, [], _∷_}
+use native.Mathlib.Omega.{arith}
+use denote.Ref.{now}
+use lib.ListN.{length, length-map, getD}
+use Rattle.sampler_voice.specs.declared.Voice.{Voice}
+use Rattle.sampler_voice.specs.Voices.{Heard, lent, lentAll, silent, frames, mix}
+use Rattle.sampler_voice.proofs.Room as Room
+use borrow.Author.Needs.{needs}
+use Rattle.sampler_voice.proofs.Voices.render.Statement.{statement}
+use Rattle.sampler_voice.proofs.Voices.render.Tie as tie
+
+element-copy-out-v : tie.Need-element-copy-out-v
+element-copy-out-v c = search needs
+
+element-copy-out-w : tie.Need-element-copy-out-w
+element-copy-out-w c = search needs
+
+render-requires : tie.Need-render-requires
+render-requires c κs =
+    let s = c .before .before .before .before .before .before in
+    (s .pre .0, (s .pre .1 .0, (s .pre .1 .1 .0, s .pre .1 .1 .1 0)))
+
+render-requires-2 : tie.Need-render-requires-2
+render-requires-2 c κs =
+    let s = c .before .before .before .before .before .before .before .before .before .before in
+    let one = c .before .before .before .render in (
+      Room.same (s .args .two) (s .args .n) (now (s .args .out)) (one .last .1 .0) (one .kept .1 .0) (s .pre .0),
+      (s .pre .1 .0, (s .pre .1 .1 .0, s .pre .1 .1 .1 1)),
+    )
+
+same-length : tie.Need-same-length
+same-length c = search needs
+
+-- a list of two is its two elements
+pair : (vs : List Voice) (d : Voice) → length vs ≡ 2 → vs ≡ getD vs 0 d ∷ getD vs 1 d ∷ []
+pair [] d h = absurd (omega arith)
+pair (v ∷ []) d h = absurd (omega arith)
+pair (v ∷ w ∷ []) d h = refl
+pair (v ∷ w ∷ x ∷ xs) d h = absurd (omega arith)
+
+returns : tie.Need-returns
+unfolding mix
+returns c =
+    let s = c .before .before .before .before .before .before .before .before .before .before .before .before .before in
+    let a = s .args in
+    let one = c .before .before .before .before .before .before .render in
+    let other = c .before .before .render2 in
+    let vs = a .t1 .voices in
+    let w = getD vs 1 silent in
+    let are-two : length vs ≡ 2 = sym (length-map vs _) ∙ s .good .0 .1 .1 .0 .1 .0 .1 in
+    let e : lent (one .result) (one .last .1 .0) ≡ frames (now (a .rec)) (a .rn) (now (a .fade)) (a .n) (a .two) (a .j) (a .k) (lent (getD vs 0 silent) (now (a .out))) = one .ensures in
+    ap (λ (h : Heard). lentAll (one .result ∷ h .voice ∷ []) (h .out)) (other .ensures)
+    ∙ ap (λ (f : Heard). lentAll (f .voice ∷ mix (now (a .rec)) (a .rn) (now (a .fade)) (a .n) (a .two) (a .j) (a .k) (w ∷ []) (f .out) .voices) (mix (now (a .rec)) (a .rn) (now (a .fade)) (a .n) (a .two) (a .j) (a .k) (w ∷ []) (f .out) .out)) e
+    ∙ ap (λ (us : List Voice). mix (now (a .rec)) (a .rn) (now (a .fade)) (a .n) (a .two) (a .j) (a .k) us (now (a .out))) (sym (pair vs silent are-two))
+
+pub render-spec : {M : Type 1} → statement M
+render-spec =
+    tie.close
+    (tie.spec
+    element-copy-out-v
+    element-copy-out-w
+    render-requires
+    render-requires-2
+    same-length
+    returns)
