@@ -12,6 +12,11 @@ pub mod utility {
             pub fn pending(&self) -> &[Event] {
                 &self.pending_events
             }
+
+            /// The file's own step, which is private to it.
+            pub fn take_before(&mut self, end_time: &Timestamp) -> Option<Event> {
+                self.next_event_before(end_time)
+            }
         }
     }
 

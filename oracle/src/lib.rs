@@ -9,9 +9,12 @@ pub mod graph;
 pub mod utility;
 
 pub mod answers;
+pub mod command_edges;
+pub mod commands;
 pub mod edges;
 pub mod random;
 pub mod rows;
+pub mod sequences;
 
 // rawdio's lib.rs gives these names at the root; the files reach for them there.
 pub use buffer::{AudioBuffer, MutableBorrowedAudioBuffer, OwnedAudioBuffer, SampleLocation};

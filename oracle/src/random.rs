@@ -12,7 +12,7 @@ impl Random {
         Self { state: seed }
     }
 
-    fn bits(&mut self) -> u64 {
+    pub(crate) fn bits(&mut self) -> u64 {
         self.state = self.state.wrapping_add(0x9e37_79b9_7f4a_7c15);
         let mixed = (self.state ^ (self.state >> 30)).wrapping_mul(0xbf58_476d_1ce4_e5b9);
         let mixed = (mixed ^ (mixed >> 27)).wrapping_mul(0x94d0_49bb_1331_11eb);
@@ -20,11 +20,11 @@ impl Random {
     }
 
     /// A number below a bound; that it is not quite even does no harm here.
-    fn below(&mut self, bound: u64) -> u64 {
+    pub(crate) fn below(&mut self, bound: u64) -> u64 {
         self.bits() % bound
     }
 
-    fn pick<T: Copy>(&mut self, values: &[T]) -> T {
+    pub(crate) fn pick<T: Copy>(&mut self, values: &[T]) -> T {
         values[self.below(values.len() as u64) as usize]
     }
 
@@ -42,7 +42,7 @@ impl Random {
     }
 
     /// Up to `width` bits, every size as likely as another.
-    fn of_any_size(&mut self, width: u32) -> u64 {
+    pub(crate) fn of_any_size(&mut self, width: u32) -> u64 {
         let size = self.below(width as u64 + 1) as u32;
         self.bits().checked_shr(64 - size).unwrap_or(0)
     }
@@ -72,7 +72,7 @@ impl Random {
         }
     }
 
-    fn rate_in_range(&mut self) -> u64 {
+    pub(crate) fn rate_in_range(&mut self) -> u64 {
         match self.below(2) {
             0 => self.pick(&[8_000, 11_025, 16_000, 22_050, 32_000, 44_100, 48_000, 88_200, 96_000]),
             _ => 8_000 + self.below(88_001),

@@ -14,7 +14,7 @@ use borrow.Author.Tests.{ltb-true, ltb-false, eqb-true, eqb-false}
 use Rattle.sampler_voice.specs.declared.Pair.{Pair}
 use Rattle.sampler_voice.specs.declared.Phase.{Phase}
 use Rattle.sampler_voice.specs.declared.Voice.{Voice}
-use Rattle.sampler_voice.specs.Sound.{entry, mixed, fetched, addAt, added}
+use Rattle.sampler_voice.specs.Sound.{entry, channelsMixed, fetched, addAt, added}
 use Rattle.sampler_voice.specs.Voices.{settled, faded, lent, sounded, frame, frames, mix}
 use Rattle.sampler_voice.proofs.Audible.{audible, sounded-as}
 use Rattle.sampler_voice.proofs.Untouched.{Beside, Outside, other-frame, sounded-beside, frames-untouched}
@@ -56,7 +56,7 @@ module _ (B : ℕ) (b : B + 16 < 2 ^ 24) where
           (add-at-most (0 * n + j) i (q .left) out (k .0) h)
 
 -- an entry is beside a frame, or it is the frame's own
-own : (n : ℕ) (two : Bool) (f i : ℕ) → Beside n two f i ⊎ ((i ≡ entry (mixed two) n 0 f) ⊎ (i ≡ entry (mixed two) n 1 f))
+own : (n : ℕ) (two : Bool) (f i : ℕ) → Beside n two f i ⊎ ((i ≡ entry (channelsMixed two) n 0 f) ⊎ (i ≡ entry (channelsMixed two) n 1 f))
 own n two f i = go (eqb i (0 * n + f)) (eqb i (1 * n + f)) refl refl
   where
     go : (s t : Bool) → eqb i (0 * n + f) ≡ s → eqb i (1 * n + f) ≡ t → Beside n two f i ⊎ ((i ≡ 0 * n + f) ⊎ (i ≡ 1 * n + f))

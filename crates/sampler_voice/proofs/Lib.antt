@@ -1,6 +1,5 @@
--- What the functions' proofs cite. Room: places in a planar list. Table: a lookup within the table. Audible: a frame adds one pair or nothing.
+-- What the functions' proofs cite. Room: places in a planar list. Audible: a frame adds one pair or nothing.
 pub mod Room
-pub mod Table
 pub mod Audible
 -- Step, Run: a loop's turn and its frames of one phase. Chunk, Ways: frames cut where a phase ends; pieces one after the other (`frames-add`); a Stopped voice (`stopped`).
 pub mod Step

@@ -5,7 +5,7 @@ use mathlib.Core.Path.{_≡_, refl, sym, _∙_, ap}
 use mathlib.Core.Bool.{Bool}
 use mathlib.Core.List.{List, [], _∷_}
 use native.Mathlib.Omega.{arith}
-use native.Mathlib.Nat.{add-zero, add-suc}
+use native.Mathlib.Nat.{add-zero}
 use native.Mathlib.Numerals.{add-one}
 use lib.ListN.{length, getD}
 use lib.Ieee.{Float}
@@ -59,13 +59,13 @@ module _ (rec : List Float) (rn : ℕ) (fade : List Float) (n : ℕ) (two : Bool
       (same-voice (j + k) d (h .voice) (h .out) (m .out))
 
   -- each voice over the whole piece is every voice over each frame
-  pub mixed : (j k : ℕ) (vs : List Voice) (out : List Float) → j + k ≤ n → mix rec rn fade n two j k vs out ≡ perFrame rec rn fade n two j k vs out
+  pub by-frame : (j k : ℕ) (vs : List Voice) (out : List Float) → j + k ≤ n → mix rec rn fade n two j k vs out ≡ perFrame rec rn fade n two j k vs out
   unfolding perFrame
-  mixed j zero vs out l = mix-zero j vs out
-  mixed j (suc k) vs out l =
+  by-frame j zero vs out l = mix-zero j vs out
+  by-frame j (suc k) vs out l =
       ap (λ (x : ℕ). mix rec rn fade n two j x vs out) (sym (add-one k))
       ∙ mix-add j k 1 vs out (omega arith)
-      ∙ ap (λ (m : Mixed). mix rec rn fade n two (j + k) 1 (m .voices) (m .out)) (mixed j k vs out (omega arith))
+      ∙ ap (λ (m : Mixed). mix rec rn fade n two (j + k) 1 (m .voices) (m .out)) (by-frame j k vs out (omega arith))
 
   -- and a frame of a piece is `frame`
   pub one-frame : (j : ℕ) (h : Heard) → frames rec rn fade n two j 1 h ≡ frame rec rn fade n two j h

@@ -1,7 +1,7 @@
 -- How far frames move a voice: at most a frame a frame, and exactly that while it isn't Stopped.
 -- The idea: what isn't Stopped after a frame wasn't Stopped before it. Assumes nothing.
 use Prim.Native.Nat.{ℕ, zero, suc, _+_, _≤_}
-use mathlib.Core.Path.{_≡_, refl, ap}
+use mathlib.Core.Path.{_≡_, refl, sym, _∙_, ap}
 use mathlib.Core.Bool.{Bool, false, true≢false}
 use mathlib.Core.List.{List}
 use native.Mathlib.Omega.{arith}
@@ -10,7 +10,7 @@ use lib.Ieee.{Float}
 use Rattle.sampler_voice.specs.declared.Phase.{Phase}
 use Rattle.sampler_voice.specs.declared.Phase.the-variants.{Stopped, FadingIn, Playing, FadingOut}
 use Rattle.sampler_voice.specs.declared.Voice.{Voice}
-use Rattle.sampler_voice.specs.Voices.{silent, isStopped, settled, nextPhase, nextPosition, Heard, lent, frame, frames, mix, Near}
+use Rattle.sampler_voice.specs.Voices.{silent, isStopped, settled, nextPhase, nextPosition, Heard, lent, frame, frames, mix, Ahead}
 use Rattle.sampler_voice.proofs.Mix.{mix-voice}
 
 was : (F : ℕ) (ph : Phase) → isStopped (settled F ph) ≡ false → isStopped ph ≡ false
@@ -59,12 +59,19 @@ module _ (rec : List Float) (rn : ℕ) (fade : List Float) (n : ℕ) (two : Bool
       let now : isStopped (settled (length fade) (v .phase)) ≡ false = before (length fade) (settled (length fade) (v .phase)) s in
       omega (arith, moves (settled (length fade) (v .phase)) (v .position) now, frames-exact j k h (was (length fade) (v .phase) now))
 
-  -- of any number of voices: what can go on by k + d frames can go on by d after k
+  -- ---- and of any number of voices
   pub mix-moved : (j k : ℕ) (vs : List Voice) (out : List Float) (i : ℕ)
       → (getD vs i silent .position ≤ getD (mix rec rn fade n two j k vs out .voices) i silent .position)
       × (getD (mix rec rn fade n two j k vs out .voices) i silent .position ≤ getD vs i silent .position + k)
   mix-moved j k vs out i =
       omega (arith, ap (λ (v : Voice). v .position) (mix-voice rec rn fade n two j k vs out out i), frames-moved j k (lent (getD vs i silent) out))
 
-  pub mix-near : (j k d : ℕ) (vs : List Voice) (out : List Float) → Near (k + d) vs → Near d (mix rec rn fade n two j k vs out .voices)
-  mix-near j k d vs out h i = omega (arith, h i, mix-moved j k vs out i .1)
+  pub mix-exact : (j k : ℕ) (vs : List Voice) (out : List Float) (i : ℕ) → isStopped (getD (mix rec rn fade n two j k vs out .voices) i silent .phase) ≡ false
+      → getD (mix rec rn fade n two j k vs out .voices) i silent .position ≡ getD vs i silent .position + k
+  mix-exact j k vs out i s =
+      let e = mix-voice rec rn fade n two j k vs out out i in
+      ap (λ (v : Voice). v .position) e ∙ frames-exact j k (lent (getD vs i silent) out) (sym (ap (λ (v : Voice). isStopped (v .phase)) e) ∙ s)
+
+  -- of k + d frames that lay ahead, d are left after k
+  pub mix-ahead : (j k d : ℕ) (vs : List Voice) (out : List Float) → Ahead (k + d) vs → Ahead d (mix rec rn fade n two j k vs out .voices)
+  mix-ahead j k d vs out h i = omega (arith, h i, mix-moved j k vs out i .1)

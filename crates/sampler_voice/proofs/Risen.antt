@@ -6,14 +6,15 @@ use mathlib.Core.Logic.{_⊎_, inl, inr, ⊎-elim}
 use mathlib.Core.Bool.{Bool, true, false}
 use mathlib.Core.List.{List}
 use native.Mathlib.Omega.{arith}
-use lib.Dec.{ltb, leb}
+use lib.Dec.{T, ltb}
 use lib.ListN.{length, getD}
 use lib.Ieee.{Float, nan}
+use lib.Ieee.Scale.{finite}
 use borrow.Author.Tests.{ltb-true, ltb-false}
 use Rattle.sampler_voice.specs.declared.Voice.{Voice}
 use Rattle.sampler_voice.specs.Voices.{mix}
 use Rattle.sampler_voice.proofs.Untouched.{Outside, mix-out-length, mix-untouched}
-use Rattle.sampler_voice.proofs.Bounds.{AtMost, most-more}
+use Rattle.sampler_voice.proofs.Bounds.{AtMost, most-more, most-finite}
 use Rattle.sampler_voice.proofs.Finite.{mix-most}
 
 -- the first `done` frames have been mixed: every entry is at most C, and what isn't of these frames still at most B
@@ -24,6 +25,9 @@ pub record Risen (n : ℕ) (two : Bool) (done B C : ℕ) (out : List Float) : Ty
 pub risen-given : (n : ℕ) (two : Bool) (B C : ℕ) (out : List Float) → B ≤ C → ((i : ℕ) → i < length out → AtMost B (getD out i nan)) → Risen n two 0 B C out
 risen-given n two B C out l h =
     record { all = λ i x. most-more B C (getD out i nan) l (h i x); rest = λ i x a. h i x }
+
+pub risen-finite : (n : ℕ) (two : Bool) (done B C : ℕ) (out : List Float) → Risen n two done B C out → (i : ℕ) → i < length out → T (finite (getD out i nan))
+risen-finite n two done B C out h i x = most-finite C (getD out i nan) (h .all i x)
 
 -- an entry is outside a piece, or in the piece and so outside what came before
 placed : (n : ℕ) (two : Bool) (j k i : ℕ) → j + k ≤ n → Outside n two j k i ⊎ Outside n two 0 j i

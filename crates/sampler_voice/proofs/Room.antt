@@ -10,8 +10,9 @@ use lib.Dec.{eqb}
 use lib.ListN.{length, getD}
 use lib.Ieee.{Float, nan}
 use borrow.Author.Tests.{eqb-true}
+use Rattle.sampler_fade.specs.Entry.{none}
 use Rattle.sampler_voice.specs.declared.Pair.{Pair}
-use Rattle.sampler_voice.specs.Sound.{none, cleaned, Room, entry, mixed, fetched, addAt, added}
+use Rattle.sampler_voice.specs.Sound.{cleaned, Room, entry, channelsMixed, fetched, addAt, added}
 
 pub first : (two : Bool) (n j : ℕ) (xs : List Float) → Room two n xs → j < n → j < length xs
 first true n j xs h l = omega arith
@@ -25,10 +26,10 @@ pub same : (two : Bool) (n : ℕ) (xs ys : List Float) → length ys ≡ length 
 same two n xs ys e h = rw e h
 
 -- the places that the code computes are the definition's
-left : (two : Bool) (n j : ℕ) → entry (mixed two) n 0 j ≡ j
+left : (two : Bool) (n j : ℕ) → entry (channelsMixed two) n 0 j ≡ j
 left two n j = omega arith
 
-right : (two : Bool) (n j : ℕ) → entry (mixed two) n 1 j ≡ n + j
+right : (two : Bool) (n j : ℕ) → entry (channelsMixed two) n 1 j ≡ n + j
 right two n j = omega arith
 
 module _ (rec : List Float) (rn p : ℕ) where
@@ -50,12 +51,12 @@ module _ (n j : ℕ) (p : Pair) (out : List Float) where
   added-one = λ i. addAt (left false n j i) (p .left) out
 
 -- a list of channels of n frames each has room, if as many channels are mixed as it has or fewer; and so it is with the smaller of two counts
-pub enough : (two : Bool) (channels n : ℕ) (xs : List Float) → length xs ≡ channels * n → mixed two ≤ channels → Room two n xs
+pub enough : (two : Bool) (channels n : ℕ) (xs : List Float) → length xs ≡ channels * n → channelsMixed two ≤ channels → Room two n xs
 enough two channels n xs e h = le-trans (mul-le-mul-right n h) (le-of-eq (sym e))
 
-pub fewer : (a b : ℕ) → 0 < a → 0 < b → (mixed (eqb (min a b) 2) ≤ a) × (mixed (eqb (min a b) 2) ≤ b)
+pub fewer : (a b : ℕ) → 0 < a → 0 < b → (channelsMixed (eqb (min a b) 2) ≤ a) × (channelsMixed (eqb (min a b) 2) ≤ b)
 fewer a b l m = go (eqb (min a b) 2) (eqb-true (min a b) 2)
   where
-    go : (t : Bool) → (t ≡ true → min a b ≡ 2) → (mixed t ≤ a) × (mixed t ≤ b)
+    go : (t : Bool) → (t ≡ true → min a b ≡ 2) → (channelsMixed t ≤ a) × (channelsMixed t ≤ b)
     go true h = let e : min a b ≡ 2 = h refl in omega arith
     go false h = omega arith

@@ -3,17 +3,18 @@
 use Prim.Native.Nat.{ℕ, zero, zero-le, suc, _+_, _-_, _<_, _≤_}
 use mathlib.Core.Path.{_≡_, refl, sym, _∙_, ap}
 use mathlib.Core.Logic.{⊎-elim}
-use mathlib.Core.Bool.{Bool, true, false, _&&_, cond}
+use mathlib.Core.Bool.{Bool, false}
 use mathlib.Core.List.{List}
 use native.Mathlib.Omega.{arith}
-use native.Mathlib.Nat.{add-zero, add-suc, add-assoc, sub-zero, le-refl, add-sub-of-le, eq-or-lt-of-le}
-use lib.ListN.{length, getD, List·getD-eq-default}
-use lib.Ieee.{Float, ofBits, binary32, le}
-use borrow.Author.Tests.{lt-ltb, le-ltb}
-use Rattle.sampler_voice.specs.declared.Pair.{Pair}
+use native.Mathlib.Nat.{add-zero, add-suc, add-assoc, add-sub-of-le, eq-or-lt-of-le}
+use lib.ListN.{length}
+use lib.Ieee.{Float}
+use borrow.Author.Tests.{le-ltb}
+use Rattle.sampler_fade.specs.Entry.{one, fadeOut}
+use Rattle.sampler_fade.proofs.Entry as Entry
 use Rattle.sampler_voice.specs.declared.Phase.{Phase}
 use Rattle.sampler_voice.specs.declared.Phase.the-variants.{Stopped, FadingIn, Playing, FadingOut}
-use Rattle.sampler_voice.specs.Sound.{one, cleanedFade, fadeAt, fetched, scaled, added}
+use Rattle.sampler_voice.specs.Sound.{fetched, scaled, added}
 use Rattle.sampler_voice.specs.Voices.{isStopped, faded, sounded}
 use Rattle.sampler_voice.specs.Run.{later, run}
 use Rattle.sampler_voice.proofs.Step.{adds}
@@ -32,15 +33,9 @@ later-later k d (FadingIn i) = ap FadingIn (add-assoc i k d)
 later-later k d Playing = refl
 later-later k d (FadingOut i) = ap FadingOut (add-assoc i k d)
 
--- 1.0 is within 0 to 1
-one-kept : cleanedFade one ≡ one
-unfolding cleanedFade ofBits le
-one-kept = refl
-
 -- the first entry of a fade out is past the table, and so 1.0
-pub full : (fade : List Float) → fadeAt fade (length fade - 0) ≡ one
-unfolding fadeAt
-full fade = simp (sub-zero, List·getD-eq-default fade one (le-refl (length fade)), one-kept)
+pub full : (fade : List Float) → fadeOut fade 0 ≡ one
+full fade = Entry.past fade (length fade - 0) (omega arith)
 
 module _ (rec : List Float) (rn : ℕ) (fade : List Float) (n : ℕ) (two : Bool) where
   pub past : (ph : Phase) (p j : ℕ) (out : List Float) → rn ≤ p → sounded rec rn fade n two ph p j out ≡ out

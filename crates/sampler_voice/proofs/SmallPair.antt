@@ -8,10 +8,11 @@ use lib.IntN.{pos}
 use lib.Dec.{T}
 use lib.ListN.{length, getD}
 use lib.Ieee.{Float, nan, fin, binary32, neg, le, ofBits}
+use Rattle.sampler_fade.specs.Entry.{none, one, cleanedFade, fadeAt}
 use Rattle.sampler_voice.specs.declared.Pair.{Pair}
 use Rattle.sampler_voice.specs.declared.Phase.{Phase}
 use Rattle.sampler_voice.specs.declared.Phase.the-variants.{Stopped, FadingIn, Playing, FadingOut}
-use Rattle.sampler_voice.specs.Sound.{none, one, sixteen, cleaned, cleanedFade, fadeAt, fetched, scaled}
+use Rattle.sampler_voice.specs.Sound.{sixteen, cleaned, fetched, scaled}
 use Rattle.sampler_voice.specs.Voices.{faded}
 use Rattle.sampler_voice.proofs.Bounds.{AtMost, mul-most}
 use Rattle.sampler_voice.proofs.RangeTests.{tests-most, unit-most}

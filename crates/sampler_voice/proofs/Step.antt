@@ -1,18 +1,19 @@
 -- One turn of a loop that sounds frames in one phase is one more frame of `run`.
 -- The idea: within the recording a phase that isn't Stopped adds its pair. Assumes nothing.
-use Prim.Native.Nat.{ℕ, _+_, _<_, _≤_}
-use mathlib.Core.Path.{_≡_, refl, _∙_}
-use mathlib.Core.Bool.{Bool, true, false, cond, true≢false}
+use Prim.Native.Nat.{ℕ, _+_, _<_}
+use mathlib.Core.Path.{_≡_, refl}
+use mathlib.Core.Bool.{Bool, true, false, true≢false}
 use mathlib.Core.List.{List}
 use native.Mathlib.Omega.{arith}
 use native.Mathlib.Numerals.{add-one}
 use lib.ListN.{length}
 use lib.Ieee.{Float}
 use borrow.Author.Tests.{lt-ltb}
+use Rattle.sampler_fade.specs.Entry.{fadeAt}
 use Rattle.sampler_voice.specs.declared.Pair.{Pair}
 use Rattle.sampler_voice.specs.declared.Phase.{Phase}
 use Rattle.sampler_voice.specs.declared.Phase.the-variants.{Stopped, FadingIn, Playing, FadingOut}
-use Rattle.sampler_voice.specs.Sound.{fadeAt, fetched, scaled, added}
+use Rattle.sampler_voice.specs.Sound.{fetched, scaled, added}
 use Rattle.sampler_voice.specs.Voices.{isStopped, faded, sounded}
 use Rattle.sampler_voice.specs.Run.{later, fading, place, run}
 

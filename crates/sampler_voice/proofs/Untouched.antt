@@ -6,13 +6,13 @@ use mathlib.Core.Logic.{_⊎_, ⊎-elim}
 use mathlib.Core.Bool.{Bool, true, false, cond, true≢false}
 use mathlib.Core.List.{List, [], _∷_}
 use native.Mathlib.Omega.{arith}
-use lib.ListN.{length, getD, set, length-set}
+use lib.ListN.{length, getD, length-set}
 use lib.Seq.{getD-set-other}
 use lib.Ieee.{Float, nan, binary32, add}
 use Rattle.sampler_voice.specs.declared.Pair.{Pair}
 use Rattle.sampler_voice.specs.declared.Phase.{Phase}
 use Rattle.sampler_voice.specs.declared.Voice.{Voice}
-use Rattle.sampler_voice.specs.Sound.{entry, mixed, fetched, addAt, added}
+use Rattle.sampler_voice.specs.Sound.{entry, channelsMixed, fetched, addAt, added}
 use Rattle.sampler_voice.specs.Voices.{settled, faded, Heard, lent, sounded, frame, frames, mix}
 use Rattle.sampler_voice.proofs.Audible.{audible, sounded-as}
 
@@ -24,7 +24,7 @@ added-length n false j p out = simp length-set
 
 -- ---- an entry i that is no mixed channel's entry of frame f
 abbrev pub Beside : ℕ → Bool → ℕ → ℕ → Type 0
-Beside n two f i = (i ≡ entry (mixed two) n 0 f → ⊥) × (two ≡ true → i ≡ entry (mixed two) n 1 f → ⊥)
+Beside n two f i = (i ≡ entry (channelsMixed two) n 0 f → ⊥) × (two ≡ true → i ≡ entry (channelsMixed two) n 1 f → ⊥)
 
 added-beside : (n : ℕ) (two : Bool) (j : ℕ) (p : Pair) (out : List Float) (i : ℕ) → Beside n two j i → getD (added n two j p out) i nan ≡ getD out i nan
 unfolding added
@@ -81,7 +81,7 @@ module _ (rec : List Float) (rn : ℕ) (fade : List Float) (n : ℕ) (two : Bool
 
 -- ---- what is outside: another frame of either channel, a channel that isn't mixed, and what is past the channels
 pub other-frame : (n : ℕ) (two : Bool) (j k g : ℕ) → j + k ≤ n → g < n → (g < j) ⊎ (j + k ≤ g)
-    → Outside n two j k (entry (mixed two) n 0 g) × Outside n two j k (entry (mixed two) n 1 g)
+    → Outside n two j k (entry (channelsMixed two) n 0 g) × Outside n two j k (entry (channelsMixed two) n 1 g)
 other-frame n two j k g l m h =
     ⊎-elim
     (λ a. ((λ f x y. ((λ e. omega arith), (λ t e. omega arith))), (λ f x y. ((λ e. omega arith), (λ t e. omega arith)))))

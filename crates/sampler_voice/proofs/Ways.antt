@@ -2,7 +2,7 @@
 -- The idea: cut the piece where a fade ends; each part stays in one phase. Assumes nothing.
 use Prim.Native.Nat.{ℕ, zero, suc, _+_, _-_, _<_, _≤_}
 use mathlib.Core.Path.{_≡_, refl, sym, _∙_, ap}
-use mathlib.Core.Bool.{Bool, true, false, cond}
+use mathlib.Core.Bool.{Bool}
 use mathlib.Core.List.{List}
 use native.Mathlib.Omega.{arith}
 use native.Mathlib.Nat.{add-sub-of-le}
@@ -12,7 +12,7 @@ use borrow.Author.Tests.{lt-ltb, le-ltb}
 use Rattle.sampler_voice.specs.declared.Voice.{Voice}
 use Rattle.sampler_voice.specs.declared.Phase.{Phase}
 use Rattle.sampler_voice.specs.declared.Phase.the-variants.{Stopped, FadingIn, Playing, FadingOut}
-use Rattle.sampler_voice.specs.Voices.{settled, nextPhase, Heard, lent, heard, sounded, frame, frames}
+use Rattle.sampler_voice.specs.Voices.{settled, nextPhase, lent, heard, sounded, frame, frames}
 use Rattle.sampler_voice.specs.Run.{later, run}
 use Rattle.sampler_voice.proofs.Chunk.{movedBy, chunk, frames-add}
 

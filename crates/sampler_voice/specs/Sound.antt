@@ -4,36 +4,21 @@ use mathlib.Core.Bool.{Bool, true, false, _&&_, cond}
 use mathlib.Core.List.{List}
 use lib.ListN.{length, getD, set}
 use lib.Ieee.{Float, nan, binary32, add, mul, neg, le, ofBits}
+use Rattle.sampler_fade.specs.Entry.{none}
 use Rattle.sampler_voice.specs.declared.Pair.{Pair}
 
--- 0.0, 1.0 and 16.0
-abbrev pub none : Float
-none = ofBits binary32 0
-
-abbrev pub one : Float
-one = ofBits binary32 0x3f80_0000
-
+-- 16.0
 abbrev pub sixteen : Float
 sixteen = ofBits binary32 0x4180_0000
-
--- ---- entries
 
 -- "A recording entry not finite or above 16 in magnitude counts as 0.0"
 unfoldable pub cleaned : Float → Float
 cleaned x = cond (le (neg sixteen) x && le x sixteen) x none
 
--- "a fade entry that is NaN or outside 0 to 1 as 1.0"
-unfoldable pub cleanedFade : Float → Float
-cleanedFade x = cond (le none x && le x one) x one
-
--- the fade's entry i, "and 1.0 past the table"
-unfoldable pub fadeAt : List Float → ℕ → Float
-fadeAt fade i = cleanedFade (getD fade i one)
-
 -- "The smaller of the two channel counts is mixed": 2 where both channels are
-abbrev pub mixed : Bool → ℕ
-mixed true = 2
-mixed false = 1
+abbrev pub channelsMixed : Bool → ℕ
+channelsMixed true = 2
+channelsMixed false = 1
 
 -- "planar: channel 0's frames, then channel 1's": the place of frame i of channel c, among `channels` of n frames each. The one way to an entry
 abbrev pub entry : ℕ → ℕ → ℕ → ℕ → ℕ
@@ -41,7 +26,7 @@ entry channels n c i = c * n + i
 
 -- as many channels of n frames as are mixed stand in xs
 abbrev pub Room : Bool → ℕ → List Float → Type 0
-Room two n xs = mixed two * n ≤ length xs
+Room two n xs = channelsMixed two * n ≤ length xs
 
 -- ---- the pair
 
@@ -49,8 +34,8 @@ Room two n xs = mixed two * n ≤ length xs
 unfoldable pub fetched : List Float → ℕ → Bool → ℕ → Pair
 fetched rec rn two p =
     record {
-      left = cleaned (getD rec (entry (mixed two) rn 0 p) nan);
-      right = cond two (cleaned (getD rec (entry (mixed two) rn 1 p) nan)) none;
+      left = cleaned (getD rec (entry (channelsMixed two) rn 0 p) nan);
+      right = cond two (cleaned (getD rec (entry (channelsMixed two) rn 1 p) nan)) none;
     }
 
 abbrev pub scaled : Float → Pair → Pair
@@ -63,5 +48,5 @@ addAt i x out = set out i (add binary32 (getD out i nan) x)
 -- the pair added at frame j of an output of n frames
 unfoldable pub added : ℕ → Bool → ℕ → Pair → List Float → List Float
 added n two j p out =
-    let left = addAt (entry (mixed two) n 0 j) (p .left) out in
-    cond two (addAt (entry (mixed two) n 1 j) (p .right) left) left
+    let left = addAt (entry (channelsMixed two) n 0 j) (p .left) out in
+    cond two (addAt (entry (channelsMixed two) n 1 j) (p .right) left) left

@@ -1,15 +1,16 @@
 -- "Voices, 0 then 1, per frame and channel": what a voice is, what starting, stopping and a frame make of it, and what is heard. Definitions only.
-use Prim.Native.Nat.{ℕ, zero, suc, _+_, _-_, _<_, _^_, max}
+use Prim.Native.Nat.{ℕ, zero, suc, _+_, _<_, _^_, max}
 use mathlib.Core.Bool.{Bool, true, false, cond}
 use mathlib.Core.List.{List, [], _∷_}
 use lib.Dec.{ltb, eqb}
 use lib.ListN.{length, getD}
 use lib.Ieee.{Float}
+use Rattle.sampler_fade.specs.Entry.{fadeIn, fadeOut}
 use Rattle.sampler_voice.specs.declared.Pair.{Pair}
 use Rattle.sampler_voice.specs.declared.Phase.{Phase}
 use Rattle.sampler_voice.specs.declared.Phase.the-variants.{Stopped, FadingIn, Playing, FadingOut}
 use Rattle.sampler_voice.specs.declared.Voice.{Voice}
-use Rattle.sampler_voice.specs.Sound.{fadeAt, fetched, scaled, added}
+use Rattle.sampler_voice.specs.Sound.{fetched, scaled, added}
 
 -- ---- a voice
 
@@ -77,9 +78,9 @@ nextPosition (FadingOut i) p = p + 1
 -- "Fade in at i: entry i. Fade out at i: entry F−i"; "Playing adds the sample"
 unfoldable pub faded : List Float → Phase → Pair → Pair
 faded fade Stopped p = p
-faded fade (FadingIn i) p = scaled (fadeAt fade i) p
+faded fade (FadingIn i) p = scaled (fadeIn fade i) p
 faded fade Playing p = p
-faded fade (FadingOut i) p = scaled (fadeAt fade (length fade - i)) p
+faded fade (FadingOut i) p = scaled (fadeOut fade i) p
 
 -- a voice, and the output that it is heard in
 pub record Heard : Type 0 where
@@ -136,6 +137,6 @@ module _ (rec : List Float) (rn : ℕ) (fade : List Float) (n : ℕ) (two : Bool
       let m = perFrame j k vs out in
       mix (j + k) 1 (m .voices) (m .out)
 
--- every voice can go on by k frames: no position is near the end of 64 bits
-abbrev pub Near : ℕ → List Voice → Type 0
-Near k vs = (i : ℕ) → getD vs i silent .position + k < 2 ^ 62
+-- k frames lie ahead of every voice: no position comes near the end of 64 bits
+abbrev pub Ahead : ℕ → List Voice → Type 0
+Ahead k vs = (i : ℕ) → getD vs i silent .position + k < 2 ^ 62

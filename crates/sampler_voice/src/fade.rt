@@ -1,9 +1,9 @@
-// sampler_fade.rs, its lookups: the fade's entry for a voice that fades in at i, or out at i. Only places
-// within the table are looked up here, so that no loop tests for its end; past it the entry is 1.0.
+// sampler_fade.rs, its lookups as the loops need them: within the table, so that none tests for its end. The
+// one entry past it, of a fade out at 0, is peeled off before the loop.
 ghost use mathlib.Core.Path.{_≡_};
-ghost use Prim.Native.Nat.{ℕ, _-_, _<_, _≤_};
+ghost use Prim.Native.Nat.{_<_, _≤_};
 ghost use lib.ListN.{length};
-ghost use Rattle.sampler_voice.specs.Sound.{cleanedFade, fadeAt};
+ghost use Rattle.sampler_fade.specs.Entry.{cleanedFade, fadeAt, fadeIn, fadeOut};
 ghost use Rattle.sampler_voice.specs.Run.{place};
 
 fn clean_fade(x: f32) -> f32
@@ -26,7 +26,7 @@ fn value(fade: &[f32], position: usize) -> f32
 
 fn fade_in_value(fade: &[f32], position: usize) -> f32
     requires { ⌜ position < length (now fade) ⌝ }
-    ensures { λ r. ⌜ r ≡ fadeAt (now (fade .entry)) position ⌝ }
+    ensures { λ r. ⌜ r ≡ fadeIn (now (fade .entry)) position ⌝ }
 {
     value(fade, position)
 }
@@ -34,7 +34,7 @@ fn fade_in_value(fade: &[f32], position: usize) -> f32
 fn fade_out_value(fade: &[f32], position: usize) -> f32
     requires { ⌜ position ≤ length (now fade) ⌝ }
     requires { ⌜ 0 < position ⌝ }
-    ensures { λ r. ⌜ r ≡ fadeAt (now (fade .entry)) (length (now (fade .entry)) - position) ⌝ }
+    ensures { λ r. ⌜ r ≡ fadeOut (now (fade .entry)) position ⌝ }
 {
     value(fade, fade.len() - position)
 }

@@ -2,10 +2,9 @@
 // Recording and output are planar, channel 0's frames and then channel 1's, of which two or one are
 // mixed. The output is n frames long; a piece of it is k frames from frame j on.
 ghost use mathlib.Core.Path.{_≡_};
-ghost use mathlib.Core.Bool.{Bool};
 ghost use Prim.Native.Nat.{_+_, _<_, _≤_, _^_};
 ghost use Rattle.sampler_voice.specs.Sound.{Room, scaled};
-ghost use Rattle.sampler_voice.specs.Voices.{silent, isStopped, startedAt, endedVoice, lent, lentAll, frames, mix, Near};
+ghost use Rattle.sampler_voice.specs.Voices.{silent, isStopped, startedAt, endedVoice, lent, lentAll, frames, mix, Ahead};
 
 mod fade;
 mod piece;
@@ -102,7 +101,8 @@ impl Voice {
         }
     }
 
-    // A piece: each phase has its loops, so that none asks for the phase in every frame.
+    // A piece: each phase has its own loops, so that none asks for the phase in every frame. With no frame to
+    // render even a fade of length 0 stays as it is.
     pub fn render(
         self,
         out: &mut [f32],
@@ -120,6 +120,9 @@ impl Voice {
         requires { ⌜ self .position + k < 2 ^ 62 ⌝ }
         ensures { λ r. ⌜ lent r (now (out .exit)) ≡ frames (now (rec .entry)) rn (now (fade .entry)) n two j k (lent self (now (out .entry))) ⌝ }
     {
+        if k == 0 {
+            return self;
+        }
         let p = self.position;
         let phase = self.phase;
         match phase {
@@ -158,7 +161,7 @@ impl Voices {
         requires { ⌜ Room two n (now out) ⌝ }
         requires { ⌜ Room two rn (now rec) ⌝ }
         requires { ⌜ j + k ≤ n ⌝ }
-        requires { ⌜ Near k (self .voices) ⌝ }
+        requires { ⌜ Ahead k (self .voices) ⌝ }
         ensures { λ r. ⌜ lentAll (r .voices) (now (out .exit)) ≡ mix (now (rec .entry)) rn (now (fade .entry)) n two j k (self .voices) (now (out .entry)) ⌝ }
     {
         let v = self.voices[0];

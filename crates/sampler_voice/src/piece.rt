@@ -1,13 +1,12 @@
 // A piece of one voice: tight loops that stay in one phase, within the recording and the table. The
 // recording's end and a fade's full first frame are settled before the loop.
 ghost use mathlib.Core.Path.{_≡_};
-ghost use mathlib.Core.Bool.{Bool, false};
-ghost use Prim.Native.Nat.{_+_, _-_, _<_, _≤_, _^_};
+ghost use mathlib.Core.Bool.{false};
+ghost use Prim.Native.Nat.{_+_, _<_, _≤_, _^_};
 ghost use lib.ListN.{length};
 ghost use Rattle.sampler_voice.specs.Sound.{Room};
 ghost use Rattle.sampler_voice.specs.Voices.{lent, heard, frames};
 ghost use Rattle.sampler_voice.specs.Run.{fading, run, Reach};
-ghost use Rattle.sampler_voice.specs.declared.Phase as Phase;
 use super::fade::fade_value;
 use super::sound::fetch;
 use super::sound::put;
@@ -162,7 +161,7 @@ fn render_fade(
     }
 }
 
-// k frames, from frame j of the output on, of a voice that fades in at i.
+// k frames, from frame j of the output on, of a voice that fades in at i. A fade that is over takes no frame.
 pub fn render_in(
     out: &mut [f32],
     n: usize,
@@ -178,37 +177,27 @@ pub fn render_in(
     requires { ⌜ Room two n (now out) ⌝ }
     requires { ⌜ Room two rn (now rec) ⌝ }
     requires { ⌜ j + k ≤ n ⌝ }
+    requires { ⌜ 0 < k ⌝ }
     requires { ⌜ p + k < 2 ^ 62 ⌝ }
     ensures { λ r. ⌜ lent r (now (out .exit)) ≡ frames (now (rec .entry)) rn (now (fade .entry)) n two j k (heard p (Phase.FadingIn i) (now (out .entry))) ⌝ }
 {
-    if k == 0 {
-        return Voice {
-            position: p,
-            phase: Phase::FadingIn(i),
-        };
-    }
+    let position = p + k;
     let all = fade.len();
     if all <= i {
         render_playing(out, n, j, rec, rn, p, fade, two, k);
-        return Voice {
-            position: p + k,
-            phase: Phase::Playing,
-        };
+        let phase = Phase::Playing;
+        return Voice { position, phase };
     }
     let left = all - i;
     if k < left {
         render_fade(out, n, j, rec, rn, p, fade, true, i, two, k);
-        return Voice {
-            position: p + k,
-            phase: Phase::FadingIn(i + k),
-        };
+        let phase = Phase::FadingIn(i + k);
+        return Voice { position, phase };
     }
     render_fade(out, n, j, rec, rn, p, fade, true, i, two, left);
     render_playing(out, n, j + left, rec, rn, p + left, fade, two, k - left);
-    Voice {
-        position: p + k,
-        phase: Phase::Playing,
-    }
+    let phase = Phase::Playing;
+    Voice { position, phase }
 }
 
 // The same of one that fades out at i.
@@ -227,33 +216,24 @@ pub fn render_out(
     requires { ⌜ Room two n (now out) ⌝ }
     requires { ⌜ Room two rn (now rec) ⌝ }
     requires { ⌜ j + k ≤ n ⌝ }
+    requires { ⌜ 0 < k ⌝ }
     requires { ⌜ p + k < 2 ^ 62 ⌝ }
     ensures { λ r. ⌜ lent r (now (out .exit)) ≡ frames (now (rec .entry)) rn (now (fade .entry)) n two j k (heard p (Phase.FadingOut i) (now (out .entry))) ⌝ }
 {
-    if k == 0 {
-        return Voice {
-            position: p,
-            phase: Phase::FadingOut(i),
-        };
-    }
     let all = fade.len();
     if all <= i {
-        return Voice {
-            position: p,
-            phase: Phase::Stopped,
-        };
+        let phase = Phase::Stopped;
+        return Voice { position: p, phase };
     }
     let left = all - i;
     if k < left {
         render_fade(out, n, j, rec, rn, p, fade, false, i, two, k);
-        return Voice {
-            position: p + k,
-            phase: Phase::FadingOut(i + k),
-        };
+        let position = p + k;
+        let phase = Phase::FadingOut(i + k);
+        return Voice { position, phase };
     }
     render_fade(out, n, j, rec, rn, p, fade, false, i, two, left);
-    Voice {
-        position: p + left,
-        phase: Phase::Stopped,
-    }
+    let position = p + left;
+    let phase = Phase::Stopped;
+    Voice { position, phase }
 }

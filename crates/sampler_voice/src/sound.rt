@@ -1,6 +1,6 @@
 // One frame's pair, from the recording to the output.
 ghost use mathlib.Core.Path.{_≡_};
-ghost use Prim.Native.Nat.{_+_, _<_};
+ghost use Prim.Native.Nat.{_<_};
 ghost use lib.ListN.{length, getD};
 ghost use lib.Ieee.{nan};
 ghost use Rattle.sampler_voice.specs.Sound.{cleaned, Room, fetched, addAt, added};

@@ -2,9 +2,12 @@
 // layout) is a call of the port, whose number and result must be the row's. Writes, for each op, how
 // many rows were compared and how many differ, and the first row that does.
 mod calls;
+mod queue;
 mod row;
 
 use libc::STDOUT_FILENO;
+use queue::Judged;
+use queue::State;
 use row::Row;
 
 // The rows of one op: how many, and how many of them differ.
@@ -47,9 +50,20 @@ fn print_counts(counts: [Count; 64]) {
 }
 
 // Whether the port's answer is the row's.
-fn judged(r: Row) -> bool {
+fn called(r: Row) -> bool {
     let got = calls::answer(r);
     (got.number == r.number) & (got.result == r.result)
+}
+
+fn judged(state: State, r: Row) -> Judged {
+    if 48 <= r.op {
+        queue::replay(state, r)
+    } else {
+        Judged {
+            same: called(r),
+            state,
+        }
+    }
 }
 
 // The next row, where a whole one is left.
@@ -71,6 +85,7 @@ fn main() {
     let none = Count { rows: 0, differ: 0 };
     let mut counts = [none; 64];
     let mut text = [0u8; 74];
+    let mut state = queue::fresh(0, 0);
     let mut shown = false;
     // a limit, since every loop ends
     let mut left: u64 = 1_000_000_000;
@@ -83,7 +98,10 @@ fn main() {
             continue;
         }
         let r = row::row_of(&text);
-        let same = judged(r);
+        let got = judged(state, r);
+        let same = got.same;
+        let held = got.state;
+        state = held;
         let op = r.op;
         let next = counted(counts, op as usize, same);
         counts = next;

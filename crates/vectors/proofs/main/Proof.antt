@@ -5,10 +5,13 @@ use Rattle.vectors.proofs.main.Statement.{statement}
 use Rattle.vectors.proofs.main.Tie as tie
 
 abbrev Inv-loop : tie.InvT-loop
-Inv-loop counts₀ text₀ shown₀ left₀ counts text shown left = Unit {0}
+Inv-loop counts₀ text₀ state₀ shown₀ left₀ counts text state shown left = Unit {0}
 
 abbrev μ-loop : tie.MeasureT-loop
-μ-loop counts₀ text₀ shown₀ left₀ counts text shown left = left
+μ-loop counts₀ text₀ state₀ shown₀ left₀ counts text state shown left = left
+
+fresh-requires : tie.Need-fresh-requires Inv-loop μ-loop
+fresh-requires c κs = search needs
 
 loop-holds : tie.Need-loop-holds Inv-loop μ-loop
 loop-holds c = search needs
@@ -64,6 +67,7 @@ main-spec =
     (tie.spec
     Inv-loop
     μ-loop
+    fresh-requires
     loop-holds
     sub-left
     read-row-requires

@@ -1,6 +1,6 @@
 -- `sampler_voice::fade::clean_fade` meets its contract.
 -- The idea: each way returns what the definition picks under the tests that led there. Assumes nothing.
-use Rattle.sampler_voice.specs.Sound.{cleanedFade}
+use Rattle.sampler_fade.specs.Entry.{cleanedFade}
 use Rattle.sampler_voice.proofs.fade.clean_fade.Statement.{statement}
 use Rattle.sampler_voice.proofs.fade.clean_fade.Tie as tie
 

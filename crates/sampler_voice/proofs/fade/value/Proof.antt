@@ -1,9 +1,8 @@
 -- `sampler_voice::fade::value` meets its contract.
 -- The idea: below the table's length the definition's 1.0 past the table isn't met (`in-table`). Assumes nothing.
-use mathlib.Core.Path.{_∙_}
+use mathlib.Core.Path.{sym, _∙_}
 use denote.Ref.{now}
-use lib.Ieee.{nan}
-use Rattle.sampler_voice.proofs.Table.{in-table}
+use Rattle.sampler_fade.proofs.Entry.{inside}
 use borrow.Author.Needs.{needs}
 use Rattle.sampler_voice.proofs.fade.value.Statement.{statement}
 use Rattle.sampler_voice.proofs.fade.value.Tie as tie
@@ -20,7 +19,7 @@ clean-fade-requires c κs = search needs
 returns : tie.Need-returns
 returns c =
     let s = c .before .before .before in
-    c .clean-fade .ensures ∙ in-table (now (s .args .fade)) (s .args .position) nan (s .pre)
+    c .clean-fade .ensures ∙ sym (inside (now (s .args .fade)) (s .args .position) (s .pre))
 
 pub value-spec : {M : Type 1} → statement M
 value-spec =

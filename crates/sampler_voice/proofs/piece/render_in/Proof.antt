@@ -5,42 +5,31 @@ use Prim.Native.Nat.{_-_}
 use native.Mathlib.Omega.{arith}
 use denote.Ref.{now}
 use lib.ListN.{length}
-use Rattle.sampler_voice.specs.Voices.{frames}
-use Rattle.sampler_voice.proofs.Room as Room
 use Rattle.sampler_voice.proofs.Ways.{in-over, in-short, in-long}
 use borrow.Author.Needs.{needs}
 use Rattle.sampler_voice.proofs.piece.render_in.Statement.{statement}
 use Rattle.sampler_voice.proofs.piece.render_in.Tie as tie
 
-returns : tie.Need-returns
-unfolding frames
-returns c = rw (c .if1 .taken)
+add-position : tie.Need-add-position
+add-position c = search needs
 
 render-playing-requires : tie.Need-render-playing-requires
 render-playing-requires c κs = search needs
 
-add-t18 : tie.Need-add-t18
-add-t18 c = search needs
-
 same-length : tie.Need-same-length
 same-length c = search needs
 
-returns-2 : tie.Need-returns-2
-returns-2 c =
-    let a = c .before .before .before .before .before .before .before .before .before .args in
-    rw (c .before .before .render-playing .ensures)
-    (sym (in-over (now (a .rec)) (a .rn) (now (a .fade)) (a .n) (a .two) (a .i) (a .p) (a .j) (a .k) (now (a .out)) (c .before .before .before .before .if2 .taken) (omega (arith, c .before .before .before .before .before .if1 .left))))
+returns : tie.Need-returns
+returns c =
+    let s = c .before .before .before .before .before .before .before .before in
+    let a = s .args in
+    rw (c .before .before .render-playing .ensures) (sym (in-over (now (a .rec)) (a .rn) (now (a .fade)) (a .n) (a .two) (a .i) (a .p) (a .j) (a .k) (now (a .out)) (c .before .before .before .before .if1 .taken) (s .pre .1 .1 .1 .0)))
 
 sub-left : tie.Need-sub-left
 sub-left c = search needs
 
 render-fade-requires : tie.Need-render-fade-requires
-render-fade-requires c κs =
-    let s = c .before .before .before .before .before .before .before in
-    (s .pre .0, (s .pre .1 .0, (s .pre .1 .1 .0, omega arith)))
-
-add-t23 : tie.Need-add-t23
-add-t23 c = search needs
+render-fade-requires c κs = search needs
 
 add-t24 : tie.Need-add-t24
 add-t24 c = search needs
@@ -48,16 +37,13 @@ add-t24 c = search needs
 same-length-2 : tie.Need-same-length-2
 same-length-2 c = search needs
 
-returns-3 : tie.Need-returns-3
-returns-3 c =
-    let a = c .before .before .before .before .before .before .before .before .before .before .args in
-    rw (c .before .before .render-fade .ensures)
-    (sym (in-short (now (a .rec)) (a .rn) (now (a .fade)) (a .n) (a .two) (a .i) (a .p) (a .j) (a .k) (now (a .out)) (omega (arith, c .before .before .before .before .if3 .taken))))
+returns-2 : tie.Need-returns-2
+returns-2 c =
+    let a = c .before .before .before .before .before .before .before .before .before .args in
+    rw (c .before .before .render-fade .ensures) (sym (in-short (now (a .rec)) (a .rn) (now (a .fade)) (a .n) (a .two) (a .i) (a .p) (a .j) (a .k) (now (a .out)) (omega (arith, c .before .before .before .before .if2 .taken))))
 
 render-fade-requires-2 : tie.Need-render-fade-requires-2
-render-fade-requires-2 c κs =
-    let s = c .before .before .before .before .before .before .before in
-    (s .pre .0, (s .pre .1 .0, (omega arith, omega arith)))
+render-fade-requires-2 c κs = search needs
 
 add-render-playing : tie.Need-add-render-playing
 add-render-playing c = search needs
@@ -66,46 +52,35 @@ add-render-playing-2 : tie.Need-add-render-playing-2
 add-render-playing-2 c = search needs
 
 render-playing-requires-2 : tie.Need-render-playing-requires-2
-render-playing-requires-2 c κs =
-    let s = c .before .before .before .before .before .before .before .before .before .before .before in
-    let done = c .before .before .before .render-fade2 in (
-      Room.same (s .args .two) (s .args .n) (now (s .args .out)) (done .last .0) (done .kept .0) (s .pre .0),
-      (s .pre .1 .0, omega (arith, c .before .before .before .before .before .if3 .left, c .before .before .before .before .before .before .if2 .left, s .pre)),
-    )
-
-add-t31 : tie.Need-add-t31
-add-t31 c = search needs
+render-playing-requires-2 c κs = search needs
 
 same-length-3 : tie.Need-same-length-3
 same-length-3 c = search needs
 
-returns-4 : tie.Need-returns-4
-returns-4 c =
-    let a = c .before .before .before .before .before .before .before .before .before .before .before .before .before .before .args in
-    let within = c .before .before .before .before .before .before .before .before .before .if2 .left in
+returns-3 : tie.Need-returns-3
+returns-3 c =
+    let a = c .before .before .before .before .before .before .before .before .before .before .before .before .before .args in
+    let within = c .before .before .before .before .before .before .before .before .before .if1 .left in
     let m = length (now (a .fade)) - a .i in
     rw (c .before .before .render-playing2 .ensures, c .before .before .before .before .before .before .render-fade2 .ensures)
-    (sym (in-long (now (a .rec)) (a .rn) (now (a .fade)) (a .n) (a .two) (a .i) (a .p) (a .j) m (a .k) (now (a .out)) within (omega (arith, within)) (omega (arith, c .before .before .before .before .before .before .before .before .if3 .left))))
+    (sym (in-long (now (a .rec)) (a .rn) (now (a .fade)) (a .n) (a .two) (a .i) (a .p) (a .j) m (a .k) (now (a .out)) within (omega (arith, within)) (omega (arith, c .before .before .before .before .before .before .before .before .if2 .left))))
 
 pub render-in-spec : {M : Type 1} → statement M
 render-in-spec =
     tie.close
     (tie.spec
-    returns
+    add-position
     render-playing-requires
-    add-t18
     same-length
-    returns-2
+    returns
     sub-left
     render-fade-requires
-    add-t23
     add-t24
     same-length-2
-    returns-3
+    returns-2
     render-fade-requires-2
     add-render-playing
     add-render-playing-2
     render-playing-requires-2
-    add-t31
     same-length-3
-    returns-4)
+    returns-3)
