@@ -1,0 +1,88 @@
+-- What number 8 and "A leg is damaged unless" (14) ask of what plays, and what its numbers stay within while a block goes on. Definitions only.
+use Prim.Native.Nat.{ℕ, zero, suc, _+_, _*_, _-_, _^_, max}
+use mathlib.Core.Bool.{Bool, true, false, _&&_, _||_, not}
+use mathlib.Core.List.{List, [], _∷_}
+use lib.Dec.{leb, ltb}
+use lib.IntN.{ℤ, pos, negℤ}
+use lib.Signed.{ltZ}
+use Rattle.sampler_voice.specs.declared.Phase.{Phase}
+use Rattle.sampler_voice.specs.declared.Phase.the-variants.{Stopped, FadingIn, Playing, FadingOut}
+use Rattle.sampler_voice.specs.declared.Voice.{Voice}
+use Rattle.sampler_voice.specs.Voices.{isStopped}
+use Rattle.sampler_event.specs.Rules.{within}
+use Rattle.sampler_event.specs.Limits.{placeBad, loopShort}
+use Rattle.sampler_player.specs.declared.Active.{Active}
+use Rattle.sampler_player.specs.declared.Active.the-variants.{Neither, Number}
+use Rattle.sampler_player.specs.declared.Points.{Points}
+use Rattle.sampler_player.specs.declared.Points.the-variants.{Absent, Between}
+use Rattle.sampler_player.specs.declared.Setup.{Setup}
+use Rattle.sampler_player.specs.declared.Player.{Player}
+
+-- 8: "position above 2^48 units, or a voice that isn't Stopped above 2^39 frames"
+abbrev pub anyFar : List Voice → Bool
+anyFar [] = false
+anyFar (v ∷ vs) = (not (isStopped (v .phase)) && ltb (2 ^ 39) (v .position)) || anyFar vs
+
+abbrev pub farBad : Player → Bool
+farBad p = ltZ (pos (2 ^ 48)) (p .position .bits) || anyFar (p .voices)
+
+-- ---- 14: "A leg is damaged unless", of what plays
+
+-- "active names a voice that is FadingIn or Playing while the other is Stopped or FadingOut, or is none and no voice is FadingIn or Playing"
+abbrev pub isHeld : Phase → Bool
+isHeld Stopped = false
+isHeld (FadingIn i) = true
+isHeld Playing = true
+isHeld (FadingOut i) = false
+
+abbrev pub noneHeld : List Voice → Bool
+noneHeld [] = true
+noneHeld (v ∷ vs) = not (isHeld (v .phase)) && noneHeld vs
+
+abbrev pub onlyHeld : ℕ → List Voice → Bool
+onlyHeld i [] = false
+onlyHeld zero (v ∷ vs) = isHeld (v .phase) && noneHeld vs
+onlyHeld (suc i) (v ∷ vs) = not (isHeld (v .phase)) && onlyHeld i vs
+
+abbrev pub activeGood : Active → List Voice → Bool
+activeGood Neither vs = noneHeld vs
+activeGood (Number i) vs = onlyHeld i vs
+
+-- "fade positions are below F, or 0 when F is 0": below the larger of F and 1
+abbrev pub fadeGood : ℕ → Phase → Bool
+fadeGood F Stopped = true
+fadeGood F (FadingIn i) = ltb i (max F 1)
+fadeGood F Playing = true
+fadeGood F (FadingOut i) = ltb i (max F 1)
+
+-- "voice positions at most 2^40"
+abbrev pub voicesGood : ℕ → List Voice → Bool
+voicesGood F [] = true
+voicesGood F (v ∷ vs) = (fadeGood F (v .phase) && leb (v .position) (2 ^ 40)) && voicesGood F vs
+
+-- "loop points pass 11 and 12"
+abbrev pub pointsGood : Setup → Points → Bool
+pointsGood s Absent = true
+pointsGood s (Between from end) = not (placeBad (from .bits) || placeBad (end .bits)) && not (loopShort (s .rate) (s .fade) (from .bits) (end .bits))
+
+-- "start position 0 to 2^42; loop points pass 11 and 12; completed loops at most 2^27": what a block keeps as it is, but for the events
+abbrev pub loopGood : Setup → Player → Bool
+loopGood s p = leb (p .completed) (2 ^ 27) && (within (pos 0) (pos (2 ^ 42)) (p .start .bits) && pointsGood s (p .points))
+
+-- "completed loops at most 2^27; position from −2^20 to 2^49; start position 0 to 2^42"
+unfoldable pub playerGood : Setup → Player → Bool
+playerGood s p =
+    (activeGood (p .active) (p .voices) && voicesGood (s .fade) (p .voices))
+    && (within (negℤ (pos (2 ^ 20))) (pos (2 ^ 49)) (p .position .bits) && loopGood s p)
+
+-- ---- inside a block, with x of its frames still to come: each bound has room for x frames more, none of which is longer than 2 ^ 20 units
+
+abbrev pub voicesKept : ℕ → ℕ → List Voice → Bool
+voicesKept F x [] = true
+voicesKept F x (v ∷ vs) =
+    (fadeGood F (v .phase) && (leb (v .position) (2 ^ 40) && (isStopped (v .phase) || leb (v .position + x) (2 ^ 39 + 4096)))) && voicesKept F x vs
+
+unfoldable pub kept : Setup → ℕ → Player → Bool
+kept s x p =
+    (activeGood (p .active) (p .voices) && voicesKept (s .fade) x (p .voices))
+    && (within (negℤ (pos (2 ^ 20))) (pos (2 ^ 48 + 2 ^ 34 - x * 2 ^ 20)) (p .position .bits) && loopGood s p)

@@ -1,0 +1,26 @@
+-- Laws of `sampler_processor`. Legs: a sound leg by its parts, the fresh and the blank one. Kept: a command keeps a leg sound. Refused: what a refusal hands back.
+-- Admitted: what a render that is not refused knows. Settled: two results that a contract allows coincide.
+pub mod Legs
+pub mod Kept
+pub mod Refused
+pub mod Admitted
+pub mod Settled
+-- Orders: an order of rules from its front. Sizes: what the kept sizes bound. Pairs: two voices as a list. Waiting: the queue's test along its array. Output: rule 6 along a slice. Answers: what making and a command
+-- answer, by their parts. Readings: an event that a record is answered with is admissible.
+pub mod Orders
+pub mod Sizes
+pub mod Pairs
+pub mod Waiting
+pub mod Output
+pub mod Answers
+pub mod Readings
+-- Events: each event below the block's end is applied, at its floor frame. Blocks: through a block what plays stays within its limits. Segments: how a segment counts its
+-- pieces. Times: sums of times that fit. Turns: what the block's loop carries. NoFrames: a block of no frames changes nothing. Renders: what a render
+-- gives its block, and answers.
+pub mod Events
+pub mod Segments
+pub mod Blocks
+pub mod Times
+pub mod Turns
+pub mod NoFrames
+pub mod Renders

@@ -1,0 +1,6 @@
+-- The leg, under document 01's headings and in its order. Numbers: "Numbers a call may answer", the damaged leg among them. Block: "One block". Calls: making, a command, a render.
+pub mod Numbers
+pub mod Block
+pub mod Calls
+-- Stands: a block's state in the code as the definition has it.
+pub mod Stands
