@@ -64,6 +64,10 @@ impl OwnedAudioBuffer {
     pub fn entries(&self) -> &[f32] {
         &self.entries
     }
+
+    pub fn entries_mut(&mut self) -> &mut [f32] {
+        &mut self.entries
+    }
 }
 
 impl AudioBuffer for OwnedAudioBuffer {

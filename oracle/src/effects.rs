@@ -52,6 +52,18 @@ pub mod sampler {
         }
 
         impl Voice {
+            /// A voice as it may stand between two blocks: the file itself only starts and stops one.
+            pub fn in_phase(phase: VoicePhase, position: usize) -> Self {
+                let phase = match phase {
+                    VoicePhase::Stopped => Phase::Stopped,
+                    VoicePhase::FadingIn(position) => Phase::FadingIn(position),
+                    VoicePhase::Playing => Phase::Playing,
+                    VoicePhase::FadingOut(position) => Phase::FadingOut(position),
+                };
+
+                Self { position, phase }
+            }
+
             pub fn phase(&self) -> VoicePhase {
                 match self.phase {
                     Phase::Stopped => VoicePhase::Stopped,

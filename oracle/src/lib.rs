@@ -12,6 +12,7 @@ pub mod answers;
 pub mod command_edges;
 pub mod commands;
 pub mod edges;
+pub mod pieces;
 pub mod random;
 pub mod rows;
 pub mod sequences;

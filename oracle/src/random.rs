@@ -29,7 +29,7 @@ impl Random {
     }
 
     /// 0 or more and below 1, in steps of 2^-53.
-    fn fraction(&mut self) -> f64 {
+    pub(crate) fn fraction(&mut self) -> f64 {
         (self.bits() >> 11) as f64 / (1_u64 << 53) as f64
     }
 

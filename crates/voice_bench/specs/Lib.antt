@@ -1,0 +1,2 @@
+-- What the contracts of `voice_bench` cite.
+pub mod Numbered
