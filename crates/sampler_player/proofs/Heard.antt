@@ -1,6 +1,6 @@
 -- What a piece asks of the voices and of what is lent: positions have room, and both channels are there where both are mixed.
 -- The idea: `kept` bounds every position; channels are 1 or 2. Assumes nothing.
-use Prim.Native.Nat.{ℕ, zero, suc, _+_, _*_, _^_, _≤_, _<_, min}
+use Prim.Native.Nat.{ℕ, zero, suc, _+_, _*_, _^_, _≤_, min}
 use native.Mathlib.Omega.{arith}
 use mathlib.Core.Path.{_≡_, refl, ap, _∙_}
 use mathlib.Core.Bool.{Bool, true, false, _&&_, _||_}

@@ -19,7 +19,7 @@ ghost use lib.IntN.{pos, natAbs, _+ℤ_, _-ℤ_};
 ghost use Rattle.timestamp.specs.Time.{earlier};
 ghost use Rattle.sampler_player.specs.Clock.{clockAt, notNegative};
 ghost use Rattle.sampler_player.specs.Pieces.{endOf, nearer, interval, leftBy, rendered, segment};
-ghost use Rattle.sampler_player.specs.Sound.{loopGood, kept};
+ghost use Rattle.sampler_player.specs.Sound.{kept};
 ghost use Rattle.sampler_player.specs.Stroke.{halfFrame, reaching, looped, strokeOf, lastStop};
 ghost use Rattle.sampler_player.specs.Lending.{lending, starting, ending, Ready};
 

@@ -76,6 +76,16 @@ module _ (s : Setup) (b : Lent) (s0 : ℕ) (low : 8000 ≤ s .rate) (high : s .r
       (stands-at (b .block - r .done) (r .now -ℤ pos t) (s0 + j .u) t (omega arith)
       (subst (λ (z : ℤ). Minus (z -ℤ pos t) (s0 + j .u) t) (sym (j .now)) (nat-minus (s0 + j .u) t)) (omega arith) (omega arith))
 
+  -- "a start's delay is above minus a frame and 8 units": of an event at t, after at most 16 of them
+  pub delay-above : (t lo k : ℕ) (r : Running) → k ≤ 16 → r .done ≡ (t - s0) * s .rate / 2 ^ 32 → Stands s b s0 low high some-frames few-frames lo k r
+      → t * s .rate < natAbs (r .now) * s .rate + (2 ^ 32 + 8 * s .rate)
+  delay-above t lo k r q e j =
+      subst (λ (n : ℕ). t * s .rate < n * s .rate + (2 ^ 32 + 8 * s .rate)) (sym (ap natAbs (j .now)))
+      (above (t - s0) (j .u) (omega arith) (mul-le-mul-right (s .rate) q) (event-delay (s .rate) k (t - s0) (j .u) (subst (λ (y : ℕ). Drift (s .rate) k y (j .u)) e (j .drift)) .0))
+    where
+      above : (d u : ℕ) → t ≤ d + s0 → k * s .rate ≤ 16 * s .rate → 2 * (d * s .rate) < 2 * (u * s .rate) + 2 ^ 33 + k * s .rate → t * s .rate < (s0 + u) * s .rate + (2 ^ 32 + 8 * s .rate)
+      above d u h g f = let m : t * s .rate ≤ (d + s0) * s .rate = mul-le-mul-right (s .rate) h in omega arith
+
   -- ---- what plays
 
   pub reached : (f : ℕ) (r : Running) → r .done ≤ f → upTo s b (pos s0) f r .done ≡ f

@@ -16,7 +16,7 @@ pub mod Answers
 pub mod Readings
 -- Events: each event below the block's end is applied, at its floor frame. Blocks: through a block what plays stays within its limits. Segments: how a segment counts its
 -- pieces. Times: sums of times that fit. Turns: what the block's loop carries. NoFrames: a block of no frames changes nothing. Renders: what a render
--- gives its block, and answers.
+-- gives its block, and answers. Handed: the leg that a render hands back is sound.
 pub mod Events
 pub mod Segments
 pub mod Blocks
@@ -24,3 +24,4 @@ pub mod Times
 pub mod Turns
 pub mod NoFrames
 pub mod Renders
+pub mod Handed

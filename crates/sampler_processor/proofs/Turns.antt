@@ -43,7 +43,7 @@ use Rattle.sampler_processor.proofs.Blocks.{Fit, AllFit, Delayed, delay
 use Rattle.sampler_processor.proofs.Segments.{segment-pieces}
 
 -- ---- a queue in order is a list of events in order, each admitted
-one-of : (a b : Bool) → (a && b) ≡ true → (a ≡ true) × (b ≡ true)
+pub one-of : (a b : Bool) → (a && b) ≡ true → (a ≡ true) × (b ≡ true)
 one-of true b h = (refl, h)
 one-of false b h = absurd (mathlib.Core.Bool.false≢true h)
 
@@ -52,29 +52,28 @@ ordered-from R F lo [] h o = tt
 ordered-from R F lo (e ∷ es) h o =
     let a = one-of (admissible R F e) (each (admissible R F) es) h in
     let b = one-of (leZ (pos lo) (e .time .bits)) (inOrderFrom (e .time .bits) es) o in
-    let u = time-up e (admitted R F e (a .0) .time) in
-    (
+    let u = time-up e (admitted R F e (a .0) .time) in (
       natAbs (e .time .bits),
       u .is,
       leb-true lo (natAbs (e .time .bits)) (ap (λ (z : ℤ). leZ (pos lo) z) (sym (u .is)) ∙ b .0),
       ordered-from R F (natAbs (e .time .bits)) es (a .1) (ap (λ (z : ℤ). inOrderFrom z es) (sym (u .is)) ∙ b .1),
     )
 
-ordered-all : (R F : ℕ) (l : List Event) → each (admissible R F) l ≡ true → inOrder l ≡ true → Ordered 0 l
+pub ordered-all : (R F : ℕ) (l : List Event) → each (admissible R F) l ≡ true → inOrder l ≡ true → Ordered 0 l
 ordered-all R F [] h o = tt
 ordered-all R F (e ∷ es) h o =
     let a = one-of (admissible R F e) (each (admissible R F) es) h in
     let u = time-up e (admitted R F e (a .0) .time) in
     (natAbs (e .time .bits), u .is, Prim.Native.Nat.zero-le, ordered-from R F (natAbs (e .time .bits)) es (a .1) (ap (λ (z : ℤ). inOrderFrom z es) (sym (u .is)) ∙ o))
 
-all-fit : (s : Setup) (l : List Event) → each (admissible (s .rate) (s .fade)) l ≡ true → AllFit s l
+pub all-fit : (s : Setup) (l : List Event) → each (admissible (s .rate) (s .fade)) l ≡ true → AllFit s l
 all-fit s [] h = tt
 all-fit s (e ∷ es) h =
     let a = one-of (admissible (s .rate) (s .fade) e) (each (admissible (s .rate) (s .fade)) es) h in
     let m = admitted (s .rate) (s .fade) e (a .0) in
     ((m .places, m .loop), all-fit s es (a .1))
 
-length-pending : (q : Queue) → length (pending q) ≤ q .count
+pub length-pending : (q : Queue) → length (pending q) ≤ q .count
 length-pending q = let e = length-take (q .count) (q .events) in omega (arith, e)
 
 -- ---- the turn
@@ -216,8 +215,7 @@ module _ (s : Setup) (b : Lent) (s0 : ℕ) (Z : Ended) (q : Queue) (r : Running)
       let f : y .done ≡ F = applied-done s b s0 (u .low) (u .high) (u .some-frames) (u .few-frames) (u .soon) x (upTo s b (pos s0) F r) ∙ reached s b s0 (u .low) (u .high) (u .some-frames) (u .few-frames) (u .soon) F r (v .0) in
       let z = delayed s b s0 (u .low) (u .high) (u .some-frames) (u .few-frames) (u .soon) t t (suc (u .k)) y (omega (arith, n)) f j in
       let w : pending (without q) ≡ xs = pending-without q (le-trans (u .room) (le-of-eq (sym (u .places)))) ∙ ap (drop 1) p in
-      let at-F : Next x F =
-      (
+      let at-F : Next x F = (
         v .0,
         v .1,
         subst (λ (i : ℤ). within (negℤ (pos (2 ^ 20))) (pos (2 ^ 49)) (upTo s b (pos s0) F r .now -ℤ i) ≡ true) (sym (o .1))

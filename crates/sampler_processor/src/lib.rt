@@ -142,7 +142,17 @@ impl Leg {
         let setup = self.setup;
         let player = self.player;
         let queue = self.queue;
-        let end = block::run_block(setup, player, queue, rec, table, channels, block, out, start);
+        let end = block::run_block(
+            setup,
+            player,
+            queue,
+            rec,
+            table,
+            channels,
+            block,
+            out,
+            start,
+        );
         let player = end.player;
         let queue = end.queue;
         let leg = Leg {

@@ -13,7 +13,8 @@ use Rattle.sampler_player.specs.Pieces.{endOf, interval}
 use Rattle.sampler_player.proofs.Kept.{Stands, stands, opened}
 use Rattle.sampler_player.proofs.Assigned.{kept-less}
 use Rattle.sampler_player.proofs.Sized.{stands-size, difference-fits}
-use Rattle.sampler_player.proofs.Ends.{sees, before-end, gap-small, to-end, stop-soon}
+use Rattle.sampler_player.proofs.Ends.{sees}
+use Rattle.sampler_player.proofs.Gap.{before-end, gap-small, to-end, stop-soon}
 use borrow.Author.Needs.{needs}
 use Rattle.sampler_player.proofs.Player.interval.Statement.{statement}
 use Rattle.sampler_player.proofs.Player.interval.Tie as tie

@@ -31,8 +31,7 @@ run-block-requires c κs =
     let a = c .before .before .before .before .before .before .before .before .before .before .args in
     let b = lending (now (a .rec)) (now (a .table)) (a .channels) (a .block) in
     let t = some-frames (a .self) b (now (a .out)) (a .start .bits) _ (a .block) (c .before .before .before .before .if1 .left) in
-    let m = admitted (a .self) b (now (a .out)) (a .start .bits) (sym (c .before .before .before .before .before .render-number .ensures) ∙ t .0) in
-    (
+    let m = admitted (a .self) b (now (a .out)) (a .start .bits) (sym (c .before .before .before .before .before .render-number .ensures) ∙ t .0) in (
       ready (a .self) b (now (a .out)) (a .start .bits) m,
       (t .1, (yes (not-false (within (pos 0) (pos (2 ^ 48)) (a .start .bits)) (m .begins)), (near (a .self) b (now (a .out)) (a .start .bits) m, parts (a .self) (m .is-sound) .queue))),
     )

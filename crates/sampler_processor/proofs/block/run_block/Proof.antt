@@ -85,8 +85,7 @@ loop-holds c =
     let s = c .before .before .before .before in
     let u = starts s in
     let z = s .pre .0 in
-    let b = lending (s .args .rec .now) (s .args .fade .now) (s .args .channels) (s .args .block) in
-    (
+    let b = lending (s .args .rec .now) (s .args .fade .now) (s .args .channels) (s .args .block) in (
       u .is,
       refl,
       refl,
@@ -105,8 +104,7 @@ enum-known-first c = search needs
 event-frame-requires : tie.Need-event-frame-requires Inv-loop μ-loop
 event-frame-requires c κs =
     let s = c .before .before .before .before .before .before .before .before .before .before .before in
-    let t = taken c in
-    (
+    let t = taken c in (
       s .pre .0 .fast,
       (
         up-within (2 ^ 49) (s .args .start .bits) (up-more (2 ^ 48) (2 ^ 49) (s .args .start .bits) (lit≤ tt) (starts s)),
@@ -120,8 +118,7 @@ up-to-requires c κs =
     let v = c .before .before .before .before .before .before .before .before .loop in
     let u = v .inv .3 in
     let t = taken (c .before .before) in
-    let e = frame-is (c .before) in
-    (
+    let e = frame-is (c .before) in (
       ready _ _ _ _ (s .pre .0) (v .inv .1),
       (
         subst (λ (n : ℕ). v .at .done ≤ n) (sym e) (t .ahead),
@@ -143,8 +140,7 @@ stands c =
 applied-to-requires : tie.Need-applied-to-requires Inv-loop μ-loop
 applied-to-requires c κs =
     let s = c .before .before .before .before .before .before .before .before .before .before .before .before .before .before .before .before in
-    let t = taken (c .before .before .before .before .before) in
-    (
+    let t = taken (c .before .before .before .before .before) in (
       s .pre .0 .fast,
       (
         t .places,
@@ -177,8 +173,7 @@ loop-again c =
     let r : running (c .before .applied-to .result) out ≡ applied (s .args .setup) b (pos (natAbs (s .args .start .bits))) e (upTo (s .args .setup) b (pos (natAbs (s .args .start .bits))) (frameOf (s .args .setup .rate) (pos (natAbs (s .args .start .bits))) (v .at .now .bits) (e .time .bits)) (running (v .at) (v .out))) =
     ap (λ (a : Stand). running a out) (c .before .applied-to .ensures)
     ∙ applied-is (s .args .setup) b (pos (natAbs (s .args .start .bits))) e (c .before .before .before .before .up-to .result) out
-    ∙ ap (applied (s .args .setup) b (pos (natAbs (s .args .start .bits))) e) (stands (c .before .before .before .before)) in
-    (
+    ∙ ap (applied (s .args .setup) b (pos (natAbs (s .args .start .bits))) e) (stands (c .before .before .before .before)) in (
       v .inv .0,
       search needs,
       v .inv .2,
@@ -202,8 +197,7 @@ up-to-requires-2 : tie.Need-up-to-requires-2 Inv-loop μ-loop
 up-to-requires-2 c κs =
     let s = c .before .before .before .before .before .before .before .before in
     let v = c .before .before .before .loop in
-    let u = v .inv .3 in
-    (
+    let u = v .inv .3 in (
       ready _ _ _ _ (s .pre .0) (v .inv .1),
       (le-of-lt (u .at .inside), (le-refl _, (u .inside, (up-within (2 ^ 49) _ (now-up _ _ _ _ _ _ u), le-trans (u .pieces) (le-trans (le-of-lt (u .at .inside)) (le-trans (u .few-frames) (lit≤ tt))))))),
     )
