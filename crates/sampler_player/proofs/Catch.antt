@@ -20,10 +20,7 @@ use Rattle.timestamp.proofs.Interval as I
 use Rattle.sampler_player.specs.declared.Setup.{Setup}
 use Rattle.sampler_player.specs.Clock.{clockAt}
 use Rattle.sampler_player.specs.Pieces.{nearer}
-
--- the ceiling of 2^31 / R: half a frame in units
-abbrev pub halfFrame : ℕ → ℕ
-halfFrame R = (2 ^ 31 + R - 1) / R
+use Rattle.sampler_player.specs.Stroke.{halfFrame}
 
 module _ (R : ℕ) (lo : 8000 ≤ R) (hi : R ≤ 96000) where
   pub half-least : 2 ^ 31 ≤ halfFrame R * R

@@ -24,19 +24,8 @@ use Rattle.sampler_player.specs.Pieces.{endOf, nearer, interval}
 use Rattle.sampler_player.specs.Sound.{pointsGood, kept}
 use Rattle.sampler_player.proofs.Assign.{counted}
 use Rattle.sampler_player.proofs.Kept.{opened, closed, loops-opened, loops-closed, Stands, stands, Looped, looped}
-use Rattle.sampler_player.proofs.Catch.{halfFrame, piece, catches, sounds}
-
--- the loop's length in units
-abbrev pub loopLength : Timestamp → Timestamp → ℕ
-loopLength from end = natAbs (end .bits -ℤ from .bits)
-
--- how far the position is past the first end, and half a frame
-abbrev pub due : ℕ → Timestamp → Player → ℤ
-due R end p = p .position .bits -ℤ (end .bits -ℤ p .start .bits) +ℤ pos (halfFrame R)
-
--- the completed loops when it has caught up: so many lengths reach `due`
-abbrev pub caughtTo : ℕ → Timestamp → Timestamp → Player → ℕ
-caughtTo R from end p = (natAbs (due R end p) + loopLength from end - 1) / loopLength from end
+use Rattle.sampler_player.proofs.Catch.{piece, catches, sounds}
+use Rattle.sampler_player.specs.Stroke.{halfFrame, loopLength, due, caughtTo}
 
 -- ---- the numbers of a player with a loop
 pub record Looping (s : Setup) (x : ℕ) (from end : Timestamp) (p : Player) : Type 0 where

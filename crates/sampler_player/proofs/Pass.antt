@@ -28,7 +28,8 @@ use Rattle.sampler_player.proofs.Kept.{opened, closed, stands, stands-w
 use Rattle.sampler_player.proofs.Held.{mix-active}
 use Rattle.sampler_player.proofs.Voices.{mix-voices}
 use Rattle.sampler_player.proofs.Assigned.{assign-kept}
-use Rattle.sampler_player.proofs.Due.{loopLength, due, caughtTo, looping, kept-counted}
+use Rattle.sampler_player.proofs.Due.{looping, kept-counted}
+use Rattle.sampler_player.specs.Stroke.{loopLength, due, caughtTo}
 use Rattle.sampler_player.proofs.Stroke.{catches-when, stroke-few, stroke-more, stroked}
 
 -- T(n) is at most n times 2^20

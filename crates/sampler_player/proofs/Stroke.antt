@@ -23,7 +23,8 @@ use Rattle.sampler_player.specs.Assign.{voiced, assign}
 use Rattle.sampler_player.specs.Pieces.{Lent, Going, endOf, nearer, interval, loopBack, after, caughtUp, passOf, pass, passes}
 use Rattle.sampler_player.specs.Sound.{kept}
 use Rattle.sampler_player.proofs.Assign.{counted, Apart, assign-leaves, assign-twice, assign-counted}
-use Rattle.sampler_player.proofs.Due.{loopLength, due, caughtTo, looping, kept-counted, caught-when}
+use Rattle.sampler_player.proofs.Due.{looping, kept-counted, caught-when}
+use Rattle.sampler_player.specs.Stroke.{loopLength, due, caughtTo}
 use Rattle.sampler_player.proofs.Target.{target-more, target-below, target-there, target-few}
 
 -- the same place in a segment with another player

@@ -13,8 +13,9 @@ use Rattle.laws.proofs.Minus.{Minus, above, below}
 use Rattle.timestamp.specs.declared.Timestamp.{Timestamp}
 use Rattle.sampler_player.specs.declared.Setup.{Setup}
 use Rattle.sampler_player.specs.declared.Player.{Player}
-use Rattle.sampler_player.proofs.Catch.{halfFrame, half-small}
-use Rattle.sampler_player.proofs.Due.{loopLength, due, caughtTo, Looping, length-is, due-is}
+use Rattle.sampler_player.proofs.Catch.{half-small}
+use Rattle.sampler_player.proofs.Due.{Looping, length-is, due-is}
+use Rattle.sampler_player.specs.Stroke.{halfFrame, loopLength, due, caughtTo}
 
 -- ---- a quotient rounded up
 module _ (n L : ℕ) (some-length : 0 < L) where

@@ -1,4 +1,4 @@
--- Two results that a contract allows coincide. Every contract of `make`, `sound`, `submit` and `render_number` says that the result is a definition's value, and this is all there is to show of each.
+-- Two results that a contract allows coincide. Every contract of `make`, `sound`, `submit` and `render` says that the result, with the output, is a definition's value, and this is all there is to show of each.
 -- The idea: both are that value. Assumes nothing.
 use mathlib.Core.Path.{_≡_, sym, _∙_}
 
