@@ -114,17 +114,17 @@ fn entry_bad(x: f32) -> bool
     !((-65536.0 <= x) & (x <= 65536.0))
 }
 
+// No way out early, so that the loop is free of branches.
 fn output_bad(out: &[f32]) -> bool
     ensures { λ r. ⌜ r ≡ outputBad (now (out .entry)) ⌝ }
 {
+    let mut bad = false;
     let mut i: usize = 0;
     while i < out.len() {
-        if entry_bad(out[i]) {
-            return true;
-        }
+        bad = bad | entry_bad(out[i]);
         i += 1;
     }
-    false
+    bad
 }
 
 // ---- 8
