@@ -1,0 +1,99 @@
+// Step 4's blocks: each over zeros, each T(frames) after the one before.
+use crate::words;
+use sampler_processor::Leg;
+use timestamp::Timestamp;
+
+// The number of the last block; the blocks rendered, their pieces, and the sum of their entries' bits.
+pub struct Blocks {
+    pub number: u8,
+    pub blocks: u64,
+    pub pieces: u64,
+    pub sum: u64,
+    pub leg: Leg,
+}
+
+fn clear(entries: &mut [f32]) {
+    let mut i: usize = 0;
+    while i < entries.len() {
+        entries[i] = 0.0;
+        i += 1;
+    }
+}
+
+fn bits_sum(entries: &[f32]) -> u64 {
+    let mut sum: u64 = 0;
+    let mut i: usize = 0;
+    while i < entries.len() {
+        sum = std::num::wrapping_add_u64(sum, words::float_bits(entries[i]) as u64);
+        i += 1;
+    }
+    sum
+}
+
+// T of a block at the leg's rate. A rate that has no T has a damaged leg, whose first block is refused.
+fn block_time(leg: Leg, block: usize) -> Timestamp {
+    let setup = leg.setup;
+    let zero = Timestamp::zero();
+    let after = zero.incremented_by_samples(block, setup.rate);
+    after.time
+}
+
+fn later(start: Timestamp, by: Timestamp) -> Timestamp {
+    let sum = start.add(by);
+    sum.time
+}
+
+// One block more, unless it is refused.
+fn another(
+    done: Blocks,
+    rec: &[f32],
+    table: &[f32],
+    channels: usize,
+    block: usize,
+    entries: &mut [f32],
+    start: Timestamp,
+) -> Blocks {
+    clear(entries);
+    let leg = done.leg;
+    let answer = leg.render(rec, table, channels, block, entries, start);
+    let next = answer.leg;
+    let rendered = answer.number == 0;
+    Blocks {
+        number: answer.number,
+        blocks: std::num::wrapping_add_u64(done.blocks, rendered as u64),
+        pieces: std::num::wrapping_add_u64(done.pieces, answer.pieces as u64),
+        sum: std::num::wrapping_add_u64(done.sum, bits_sum(entries)),
+        leg: next,
+    }
+}
+
+pub fn run(
+    leg: Leg,
+    rec: &[f32],
+    table: &[f32],
+    channels: usize,
+    block: usize,
+    entries: &mut [f32],
+    start: Timestamp,
+    count: u64,
+) -> Blocks {
+    let by = block_time(leg, block);
+    let mut done = Blocks {
+        number: 0,
+        blocks: 0,
+        pieces: 0,
+        sum: 0,
+        leg,
+    };
+    let mut at = start;
+    let mut left = count;
+    while 0 < left {
+        left -= 1;
+        done = another(done, rec, table, channels, block, entries, at);
+        if done.number != 0 {
+            break;
+        }
+        at = later(at, by);
+    }
+    done
+}
