@@ -2,6 +2,8 @@
 use crate::words;
 use sampler_processor::Leg;
 use timestamp::Timestamp;
+ghost use Prim.Native.Nat.{_≤_, _<_, _^_};
+ghost use lib.ListN.{length};
 
 // The number of the last block; the blocks rendered, their pieces, and the sum of their entries' bits.
 pub struct Blocks {
@@ -20,14 +22,27 @@ fn clear(entries: &mut [f32]) {
     }
 }
 
-fn bits_sum(entries: &[f32]) -> u64 {
-    let mut sum: u64 = 0;
+fn wide(x: u32) -> u64
+    ensures { λ r. ⌜ r < 2 ^ 32 ⌝ }
+{
+    x as u64
+}
+
+// The sum of the entries' bits. Their halves are summed apart, in 32 bits, so that the loop keeps to words of one
+// width.
+fn bits_sum(entries: &[f32]) -> u64
+    requires { ⌜ length (now entries) ≤ 65536 ⌝ }
+{
+    let mut low: u32 = 0;
+    let mut high: u32 = 0;
     let mut i: usize = 0;
     while i < entries.len() {
-        sum = std::num::wrapping_add_u64(sum, words::float_bits(entries[i]) as u64);
+        let bits = words::float_bits(entries[i]);
+        low += bits % 65536;
+        high += bits / 65536;
         i += 1;
     }
-    sum
+    wide(low) + 65536 * wide(high)
 }
 
 // T of a block at the leg's rate. A rate that has no T has a damaged leg, whose first block is refused.
@@ -52,7 +67,9 @@ fn another(
     block: usize,
     entries: &mut [f32],
     start: Timestamp,
-) -> Blocks {
+) -> Blocks
+    requires { ⌜ length (now entries) ≤ 65536 ⌝ }
+{
     clear(entries);
     let leg = done.leg;
     let answer = leg.render(rec, table, channels, block, entries, start);
@@ -76,7 +93,9 @@ pub fn run(
     entries: &mut [f32],
     start: Timestamp,
     count: u64,
-) -> Blocks {
+) -> Blocks
+    requires { ⌜ length (now entries) ≤ 65536 ⌝ }
+{
     let by = block_time(leg, block);
     let mut done = Blocks {
         number: 0,

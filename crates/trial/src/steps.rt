@@ -10,6 +10,7 @@ use sampler_processor::Leg;
 use sampler_processor::LegAnswer;
 use timestamp::Timestamp;
 ghost use Prim.Native.Nat.{_≤_};
+ghost use lib.ListN.{length};
 
 // Whether the step was well formed, and where the trial stands after it.
 pub struct After {
@@ -217,6 +218,7 @@ fn placed(
 // The output's entries. A count of channels that 2 refuses needs none.
 fn entries_of(channels: usize, block: usize) -> usize
     requires { ⌜ block ≤ 4096 ⌝ }
+    ensures { λ r. ⌜ r ≤ 8192 ⌝ }
 {
     if channels == 1 {
         return block;
@@ -247,7 +249,9 @@ fn sum_up(
     entries: &mut [f32],
     start: Timestamp,
     count: u64,
-) -> After {
+) -> After
+    requires { ⌜ length (now entries) ≤ 65536 ⌝ }
+{
     let done = run::run(leg, rec, table, channels, block, entries, start, count);
     let next = done.leg;
     let summed = put_blocks(sink, output, done);

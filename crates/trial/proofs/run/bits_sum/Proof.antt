@@ -1,16 +1,16 @@
 -- `trial::run::bits_sum` is safe and ends.
--- The idea: the index stays below the length. Assumes nothing.
-use Prim.Native.Nat.{_-_}
+-- The idea: after i entries each half is at most 65,535 times i, and there are few enough for 32 bits. Assumes nothing.
+use Prim.Native.Nat.{_-_, _*_, _≤_}
 use lib.ListN.{length}
 use borrow.Author.Needs.{needs}
 use Rattle.trial.proofs.run.bits_sum.Statement.{statement}
 use Rattle.trial.proofs.run.bits_sum.Tie as tie
 
 abbrev Inv-loop : tie.InvT-loop
-Inv-loop entries sum₀ i₀ sum i = Unit {0}
+Inv-loop entries low₀ high₀ i₀ low high i = (i ≤ length entries) × (low ≤ 65535 * i) × (high ≤ 65535 * i)
 
 abbrev μ-loop : tie.MeasureT-loop
-μ-loop entries sum₀ i₀ sum i = length entries - i
+μ-loop entries low₀ high₀ i₀ low high i = length entries - i
 
 loop-holds : tie.Need-loop-holds Inv-loop μ-loop
 loop-holds c = search needs
@@ -24,11 +24,11 @@ shared-slice-read-float-bits c = search needs
 float-bits-requires : tie.Need-float-bits-requires Inv-loop μ-loop
 float-bits-requires c κs = search needs
 
-cast-wrapping-add-u64 : tie.Need-cast-wrapping-add-u64 Inv-loop μ-loop
-cast-wrapping-add-u64 c = search needs
+add-low : tie.Need-add-low Inv-loop μ-loop
+add-low c = search needs
 
-wrapping-add-u64-requires : tie.Need-wrapping-add-u64-requires Inv-loop μ-loop
-wrapping-add-u64-requires c κs = search needs
+add-high : tie.Need-add-high Inv-loop μ-loop
+add-high c = search needs
 
 add-i : tie.Need-add-i Inv-loop μ-loop
 add-i c = search needs
@@ -38,6 +38,18 @@ loop-less c = search needs
 
 loop-again : tie.Need-loop-again Inv-loop μ-loop
 loop-again c = search needs
+
+wide-requires : tie.Need-wide-requires Inv-loop μ-loop
+wide-requires c κs = search needs
+
+wide-requires-2 : tie.Need-wide-requires-2 Inv-loop μ-loop
+wide-requires-2 c κs = search needs
+
+mul-result : tie.Need-mul-result Inv-loop μ-loop
+mul-result c = search needs
+
+add-result : tie.Need-add-result Inv-loop μ-loop
+add-result c = search needs
 
 returns : tie.Need-returns Inv-loop μ-loop
 returns c = search needs
@@ -52,9 +64,13 @@ bits-sum-spec =
     mul-float-bits
     shared-slice-read-float-bits
     float-bits-requires
-    cast-wrapping-add-u64
-    wrapping-add-u64-requires
+    add-low
+    add-high
     add-i
     loop-less
     loop-again
+    wide-requires
+    wide-requires-2
+    mul-result
+    add-result
     returns)

@@ -90,7 +90,7 @@ slice-aggregate-sum-up c = simp length-take (omega arith)
 
 -- src/steps.rt:269:5
 sum-up-requires : tie.Need-sum-up-requires
-sum-up-requires c κs = search needs
+sum-up-requires c κs = simp length-take (omega arith)
 
 -- src/steps.rt:243:1
 same-length : tie.Need-same-length
