@@ -15,6 +15,9 @@ pub trait AudioBuffer {
     fn channel(&self, channel: usize) -> &[f32];
     fn channel_mut(&mut self, channel: usize) -> &mut [f32];
 
+    /// Told of each window on it: 1 for one of its own, 2 for a window on such a window, and so on.
+    fn window_made(&mut self, _depth: usize) {}
+
     fn get_sample(&self, location: SampleLocation) -> f32 {
         self.channel(location.channel)[location.frame]
     }
@@ -51,6 +54,7 @@ pub struct OwnedAudioBuffer {
     channel_count: usize,
     frame_count: usize,
     sample_rate: usize,
+    pieces: u64,
 }
 
 impl OwnedAudioBuffer {
@@ -58,7 +62,17 @@ impl OwnedAudioBuffer {
         let frame_count = entries.len() / channel_count;
         assert_eq!(entries.len(), channel_count * frame_count);
 
-        Self { entries, channel_count, frame_count, sample_rate }
+        Self { entries, channel_count, frame_count, sample_rate, pieces: 0 }
+    }
+
+    /// How many pieces were rendered into it. The Rust counts none, but sampler_processor.rs lays a window on the block
+    /// for each segment, and a window on that one for each piece, and lays none elsewhere.
+    pub fn pieces(&self) -> u64 {
+        self.pieces
+    }
+
+    pub fn into_entries(self) -> Vec<f32> {
+        self.entries
     }
 
     pub fn entries(&self) -> &[f32] {
@@ -90,6 +104,10 @@ impl AudioBuffer for OwnedAudioBuffer {
     fn channel_mut(&mut self, channel: usize) -> &mut [f32] {
         &mut self.entries[channel * self.frame_count..][..self.frame_count]
     }
+
+    fn window_made(&mut self, depth: usize) {
+        self.pieces += u64::from(depth == 2);
+    }
 }
 
 /// A window on some frames of another buffer; writing to it writes there.
@@ -101,6 +119,7 @@ pub struct MutableBorrowedAudioBuffer<'a> {
 
 impl<'a> MutableBorrowedAudioBuffer<'a> {
     pub fn slice_frames(buffer: &'a mut dyn AudioBuffer, first_frame: usize, frame_count: usize) -> Self {
+        buffer.window_made(1);
         Self { buffer, first_frame, frame_count }
     }
 }
@@ -124,5 +143,9 @@ impl AudioBuffer for MutableBorrowedAudioBuffer<'_> {
 
     fn channel_mut(&mut self, channel: usize) -> &mut [f32] {
         &mut self.buffer.channel_mut(channel)[self.first_frame..][..self.frame_count]
+    }
+
+    fn window_made(&mut self, depth: usize) {
+        self.buffer.window_made(depth + 1);
     }
 }

@@ -31,6 +31,9 @@ pub const CANCEL_ALL: u16 = 6;
 
 pub const PLACES: usize = 16;
 
+/// "Record, little-endian: kind u16, time, first, second as i64."
+pub const RECORD_BYTES: usize = 26;
+
 /// "Record, little-endian: kind u16, time, first, second as i64". One of another length than 26 is these bytes cut
 /// short, or followed by zeros.
 #[derive(Clone, Copy, Debug, PartialEq, Eq)]
@@ -44,7 +47,24 @@ pub struct Record {
 
 impl Record {
     pub fn new(kind: u16, time: i64, first: i64, second: i64) -> Self {
-        Self { length: 26, kind, time, first, second }
+        Self { length: RECORD_BYTES as u16, kind, time, first, second }
+    }
+
+    /// Of another length than 26 no byte is looked at: the length alone is refused.
+    pub fn from_bytes(bytes: &[u8]) -> Self {
+        let Ok(bytes) = <&[u8; RECORD_BYTES]>::try_from(bytes) else {
+            return Self { length: bytes.len() as u16, ..Self::new(0, 0, 0, 0) };
+        };
+
+        let field = |at: usize| i64::from_le_bytes(bytes[at..at + 8].try_into().expect("eight bytes"));
+        Self::new(u16::from_le_bytes([bytes[0], bytes[1]]), field(2), field(10), field(18))
+    }
+
+    pub fn to_bytes(&self) -> Vec<u8> {
+        let mut bytes = self.kind.to_le_bytes().to_vec();
+        [self.time, self.first, self.second].iter().for_each(|field| bytes.extend(field.to_le_bytes()));
+        bytes.resize(self.length.into(), 0);
+        bytes
     }
 
     /// Whether time, first and second are used; `None` for a kind that is not known.
@@ -75,7 +95,39 @@ impl Record {
         }
     }
 
-    fn event(&self) -> SamplerEvent {
+    /// "13, 10, 11, 12": the rules that a record meets by itself, at a leg's rate and fade length.
+    pub fn admissible(&self, rate: u64, fade: u64) -> Result<(), u8> {
+        if !self.well_formed() {
+            return Err(RECORD);
+        }
+
+        if !(0..=1 << 48).contains(&self.time) {
+            return Err(TIME);
+        }
+
+        if !self.positions().iter().all(|position| (0..=1 << 42).contains(position)) {
+            return Err(POSITION);
+        }
+
+        if self.kind == ENABLE_LOOP && is_short(self.first, self.second, rate, fade) {
+            return Err(LOOP);
+        }
+
+        Ok(())
+    }
+
+    /// "Command: 14, 13, 10, 11, 12, 9", but for 14, with so many events pending.
+    pub fn taken(&self, rate: u64, fade: u64, waiting: usize) -> Result<(), u8> {
+        self.admissible(rate, fade)?;
+
+        if waiting == PLACES && self.kind != CANCEL_ALL {
+            return Err(FULL);
+        }
+
+        Ok(())
+    }
+
+    pub fn event(&self) -> SamplerEvent {
         let [time, first, second] = [self.time, self.first, self.second].map(Timestamp::from_units);
 
         match (self.kind, self.time) {
@@ -92,6 +144,11 @@ impl Record {
             (kind, _) => panic!("kind {kind} is refused"),
         }
     }
+}
+
+fn is_short(start: i64, end: i64, rate: u64, fade: u64) -> bool {
+    let least = i128::from(fade.max(64));
+    (i128::from(end) - i128::from(start)) * i128::from(rate) + (1 << 31) < least << 32
 }
 
 /// The record that an event of the queue stands for.
@@ -127,7 +184,8 @@ impl Queue {
 
     /// 0, or the number of the refusal.
     pub fn submit(&mut self, record: &Record) -> u8 {
-        if let Err(number) = self.judge(record) {
+        // There is no leg here that 14 could refuse.
+        if let Err(number) = record.taken(self.rate, self.fade, self.waiting) {
             return number;
         }
 
@@ -135,36 +193,6 @@ impl Queue {
         self.waiting = if record.kind == CANCEL_ALL { 1 } else { self.waiting + 1 };
         self.transmitter.send(record.event()).expect("the processor holds the other end");
         0
-    }
-
-    /// "Command: 14, 13, 10, 11, 12, 9"; there is no leg here that 14 could refuse.
-    fn judge(&self, record: &Record) -> Result<(), u8> {
-        if !record.well_formed() {
-            return Err(RECORD);
-        }
-
-        if !(0..=1 << 48).contains(&record.time) {
-            return Err(TIME);
-        }
-
-        if !record.positions().iter().all(|position| (0..=1 << 42).contains(position)) {
-            return Err(POSITION);
-        }
-
-        if record.kind == ENABLE_LOOP && self.is_short(record.first, record.second) {
-            return Err(LOOP);
-        }
-
-        if self.waiting == PLACES && record.kind != CANCEL_ALL {
-            return Err(FULL);
-        }
-
-        Ok(())
-    }
-
-    fn is_short(&self, start: i64, end: i64) -> bool {
-        let least = i128::from(self.fade.max(64));
-        (i128::from(end) - i128::from(start)) * i128::from(self.rate) + (1 << 31) < least << 32
     }
 
     /// The first event before an end. As in a block, what was sent since the last time is received first, in one go.

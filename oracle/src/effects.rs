@@ -13,6 +13,11 @@ pub mod utility {
                 &self.pending_events
             }
 
+            /// A queue as it may stand between two blocks, in order: the file itself only receives.
+            pub fn hold(&mut self, events: Vec<Event>) {
+                self.pending_events = events;
+            }
+
             /// The file's own step, which is private to it.
             pub fn take_before(&mut self, end_time: &Timestamp) -> Option<Event> {
                 self.next_event_before(end_time)
@@ -101,6 +106,23 @@ pub mod sampler {
                     start_position: self.start_position_in_sample,
                     completed_loops: self.completed_loops,
                 }
+            }
+
+            /// A leg as it may stand between two blocks.
+            pub fn hold(&mut self, player: Player, events: Vec<SamplerEvent>) {
+                let voices = player.voices.into_iter();
+                self.voices = voices.map(|(phase, position)| Voice::in_phase(phase, position)).collect();
+                self.active_voice = player.active;
+                self.loop_points = player.loop_points;
+                self.position = player.position;
+                self.start_position_in_sample = player.start_position;
+                self.completed_loops = player.completed_loops;
+                self.event_processor.hold(events);
+            }
+
+            /// What a block does first: the queue then holds, in order, what was sent.
+            pub fn receive_events(&mut self) {
+                self.event_processor.receive_events();
             }
 
             pub fn pending(&self) -> &[SamplerEvent] {

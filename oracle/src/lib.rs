@@ -11,11 +11,18 @@ pub mod utility;
 pub mod answers;
 pub mod command_edges;
 pub mod commands;
+pub mod differences;
 pub mod edges;
+pub mod leg;
+pub mod leg_numbers;
+pub mod leg_run;
 pub mod pieces;
 pub mod random;
 pub mod rows;
 pub mod sequences;
+pub mod sessions;
+pub mod trial_file;
+pub mod trials;
 
 // rawdio's lib.rs gives these names at the root; the files reach for them there.
 pub use buffer::{AudioBuffer, MutableBorrowedAudioBuffer, OwnedAudioBuffer, SampleLocation};

@@ -247,12 +247,12 @@ impl Random {
     }
 
     /// The first of random patterns that will do.
-    fn float(&mut self, good: fn(f32) -> bool) -> f32 {
+    pub(crate) fn float(&mut self, good: fn(f32) -> bool) -> f32 {
         std::iter::repeat_with(|| f32::from_bits(self.bits() as u32)).find(|x| good(*x)).expect("half of them will do")
     }
 
     /// A recording's entry: finite, and at most 16 in magnitude.
-    fn sample(&mut self) -> f32 {
+    pub(crate) fn sample(&mut self) -> f32 {
         match self.below(8) {
             0 => self.pick(&[0.0, -0.0, 16.0, -16.0, 1.0, -1.0, f32::MIN_POSITIVE, -f32::from_bits(1)]),
             1..=2 => self.float(|x| x.abs() <= 16.0),
@@ -261,7 +261,7 @@ impl Random {
     }
 
     /// A table's entry: from 0 to 1.
-    fn gain(&mut self) -> f32 {
+    pub(crate) fn gain(&mut self) -> f32 {
         match self.below(8) {
             0 => self.pick(&[0.0, -0.0, 1.0, f32::from_bits(0x3f7f_ffff), f32::MIN_POSITIVE, f32::from_bits(1)]),
             1 => self.float(|x| x.abs() <= 1.0).abs(),

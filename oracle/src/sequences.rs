@@ -131,7 +131,7 @@ impl Random {
     }
 
     /// The record with one thing changed, mostly to what a rule refuses.
-    fn spoilt(&mut self, mut record: Record) -> Record {
+    pub(crate) fn spoilt(&mut self, mut record: Record) -> Record {
         let bit = 1_i64 << self.below(64);
         match self.below(8) {
             0 => record.length = self.pick(&[0, 1, 2, 10, 18, 25, 27, 28, 34, 52, 64]),
