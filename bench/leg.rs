@@ -2,7 +2,7 @@
 //! costs either, after the blocks, pieces and sums of both are seen to be the same.
 
 use oracle::commands::{Record, ENABLE_LOOP, START, START_IMMEDIATE};
-use oracle::effects::sampler::{EventTransmitter, Fade, Player, SamplerDspProcess};
+use oracle::effects::sampler::{EventTransmitter, Fade, SamplerDspProcess};
 use oracle::effects::Channel;
 use oracle::graph::{DspProcessor, ProcessContext};
 use oracle::leg::{Leg, Sizes};
@@ -165,21 +165,8 @@ impl Rust {
         Self { process, commands, output: OwnedAudioBuffer::from_planar(vec![0.0; ENTRIES], 2, RATE) }
     }
 
-    fn put_in_place(&mut self, leg: &Leg) {
-        let time = Timestamp::from_units;
-        let player = Player {
-            voices: leg.voices.iter().map(|(phase, position)| (*phase, *position as usize)).collect(),
-            active: leg.active,
-            loop_points: leg.loop_points.map(|(start, end)| (time(start), time(end))),
-            position: time(leg.position),
-            start_position: time(leg.start_position),
-            completed_loops: leg.completed as usize,
-        };
-        self.process.hold(player, leg.events.iter().map(Record::event).collect());
-    }
-
     fn visit(&mut self, visit: &Visit) -> (Duration, Answer) {
-        visit.leg.iter().for_each(|leg| self.put_in_place(leg));
+        visit.leg.iter().for_each(|leg| leg.put_into(&mut self.process));
         let pieces = self.output.pieces();
         let mut sum = 0_u64;
 

@@ -67,7 +67,7 @@ impl LegRun {
 
         if !numbers::is_damaged(leg) {
             let mut played = Played::new(leg.sizes, &self.recording, &self.fade);
-            played.hold(leg);
+            leg.put_into(&mut played.process);
             self.leg = played.leg();
             self.played = Some(played);
         }
@@ -136,6 +136,22 @@ impl Sizes {
     }
 }
 
+impl Leg {
+    /// The Rust's process stands as this leg does.
+    pub fn put_into(&self, process: &mut SamplerDspProcess) {
+        let time = Timestamp::from_units;
+        let player = Player {
+            voices: self.voices.iter().map(|(phase, position)| (*phase, *position as usize)).collect(),
+            active: self.active,
+            loop_points: self.loop_points.map(|(start, end)| (time(start), time(end))),
+            position: time(self.position),
+            start_position: time(self.start_position),
+            completed_loops: self.completed as usize,
+        };
+        process.hold(player, self.events.iter().map(Record::event).collect());
+    }
+}
+
 impl Played {
     fn new(sizes: Sizes, recording: &[f32], fade: &[f32]) -> Self {
         let entries = usize::from(sizes.channels) * sizes.frames as usize;
@@ -146,19 +162,6 @@ impl Played {
         let (commands, receiver) = Channel::channel();
         let process = SamplerDspProcess::new_wth_fade(rate, recording, receiver, Fade::from_entries(fade));
         Self { sizes, process, commands }
-    }
-
-    fn hold(&mut self, leg: &Leg) {
-        let time = Timestamp::from_units;
-        let player = Player {
-            voices: leg.voices.iter().map(|(phase, position)| (*phase, *position as usize)).collect(),
-            active: leg.active,
-            loop_points: leg.loop_points.map(|(start, end)| (time(start), time(end))),
-            position: time(leg.position),
-            start_position: time(leg.start_position),
-            completed_loops: leg.completed as usize,
-        };
-        self.process.hold(player, leg.events.iter().map(Record::event).collect());
     }
 
     fn leg(&self) -> Leg {
