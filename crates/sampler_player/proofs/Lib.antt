@@ -16,7 +16,8 @@ pub mod Voices
 pub mod Assigned
 pub mod Pass
 pub mod Enough
--- Trace: what a segment reports. Applied: events keep the invariant. Sound: from number 14 to the invariant and back.
+-- NoNan: no entry becomes a NaN. Trace: what a segment reports. Applied: events keep the invariant. Sound: from number 14 to the invariant and back.
+pub mod NoNan
 pub mod Trace
 pub mod Applied
 pub mod Sound

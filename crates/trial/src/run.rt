@@ -1,9 +1,9 @@
 // Step 4's blocks: each over zeros, each T(frames) after the one before.
-use crate::words;
 use sampler_processor::Leg;
 use timestamp::Timestamp;
 ghost use Prim.Native.Nat.{_≤_, _<_, _^_};
 ghost use lib.ListN.{length};
+ghost use Rattle.sampler_voice.proofs.NoNan.{Number, Numbers};
 
 // The number of the last block; the blocks rendered, their pieces, and the sum of their entries' bits.
 pub struct Blocks {
@@ -14,7 +14,9 @@ pub struct Blocks {
     pub leg: Leg,
 }
 
-fn clear(entries: &mut [f32]) {
+fn clear(entries: &mut [f32])
+    ensures { λ _. ⌜ Numbers (now (entries .exit)) ⌝ }
+{
     let mut i: usize = 0;
     while i < entries.len() {
         entries[i] = 0.0;
@@ -28,18 +30,24 @@ fn wide(x: u32) -> u64
     x as u64
 }
 
-// The sum of the entries' bits. Their halves are summed apart, in 32 bits, so that the loop keeps to words of one
-// width.
+fn bits(x: f32) -> u32
+    requires { ⌜ Number x ⌝ }
+{
+    f32::to_bits(x)
+}
+
+// The sum of the entries' bits; none is a NaN. Their halves are summed apart, in 32 bits, so that the loop keeps to
+// words of one width.
 fn bits_sum(entries: &[f32]) -> u64
-    requires { ⌜ length (now entries) ≤ 65536 ⌝ }
+    requires { ⌜ length (now entries) ≤ 65536 ⌝ ∗ ⌜ Numbers (now entries) ⌝ }
 {
     let mut low: u32 = 0;
     let mut high: u32 = 0;
     let mut i: usize = 0;
     while i < entries.len() {
-        let bits = words::float_bits(entries[i]);
-        low += bits % 65536;
-        high += bits / 65536;
+        let word = bits(entries[i]);
+        low += word % 65536;
+        high += word / 65536;
         i += 1;
     }
     wide(low) + 65536 * wide(high)

@@ -2,6 +2,7 @@
 -- The idea: after i entries each half is at most 65,535 times i, and there are few enough for 32 bits. Assumes nothing.
 use Prim.Native.Nat.{_-_, _*_, _≤_}
 use lib.ListN.{length}
+use native.Mathlib.Omega.{arith}
 use borrow.Author.Needs.{needs}
 use Rattle.trial.proofs.run.bits_sum.Statement.{statement}
 use Rattle.trial.proofs.run.bits_sum.Tie as tie
@@ -15,14 +16,14 @@ abbrev μ-loop : tie.MeasureT-loop
 loop-holds : tie.Need-loop-holds Inv-loop μ-loop
 loop-holds c = search needs
 
-mul-float-bits : tie.Need-mul-float-bits Inv-loop μ-loop
-mul-float-bits c = search needs
+mul-bits : tie.Need-mul-bits Inv-loop μ-loop
+mul-bits c = search needs
 
-shared-slice-read-float-bits : tie.Need-shared-slice-read-float-bits Inv-loop μ-loop
-shared-slice-read-float-bits c = search needs
+shared-slice-read-bits : tie.Need-shared-slice-read-bits Inv-loop μ-loop
+shared-slice-read-bits c = search needs
 
-float-bits-requires : tie.Need-float-bits-requires Inv-loop μ-loop
-float-bits-requires c κs = search needs
+bits-requires : tie.Need-bits-requires Inv-loop μ-loop
+bits-requires c κs = c .before .before .before .before .pre .1 (c .before .before .loop .i) (omega arith)
 
 add-low : tie.Need-add-low Inv-loop μ-loop
 add-low c = search needs
@@ -61,9 +62,9 @@ bits-sum-spec =
     Inv-loop
     μ-loop
     loop-holds
-    mul-float-bits
-    shared-slice-read-float-bits
-    float-bits-requires
+    mul-bits
+    shared-slice-read-bits
+    bits-requires
     add-low
     add-high
     add-i

@@ -1,0 +1,103 @@
+-- No entry of an output becomes a NaN, whatever is mixed into it.
+-- The idea: what is added is finite, and a sum with a finite value is a NaN only where the other is one. Assumes nothing.
+use Prim.Native.Nat.{ℕ, zero, suc, _+_, _-_, _*_, _^_, _<_}
+use mathlib.Core.Path.{_≡_, refl, sym, subst}
+use mathlib.Core.Bool.{Bool, true, false, cond, not, _&&_, Bool·beq}
+use mathlib.Core.List.{List, [], _∷_}
+use lib.Dec.{T, ltb, eqb}
+use lib.ListN.{length, getD, length-set}
+use lib.Seq.{getD-set-same, getD-set-other}
+use lib.Ieee.{Float, nan, inf, fin, Format, prec, emax, low, up, down, isNan, odd, units, round, sum, add, binary32}
+use borrow.Author.Tests.{eqb-true, eqb-false}
+use Rattle.sampler_voice.specs.declared.Pair.{Pair}
+use Rattle.sampler_voice.specs.declared.Phase.{Phase}
+use Rattle.sampler_voice.specs.declared.Voice.{Voice}
+use Rattle.sampler_voice.specs.Sound.{fetched, addAt, added}
+use Rattle.sampler_voice.specs.Voices.{Heard, settled, faded, lent, sounded, frame, frames, mix}
+use Rattle.sampler_voice.proofs.Audible.{audible, sounded-as}
+use Rattle.sampler_voice.proofs.Bounds.{AtMost}
+use Rattle.sampler_voice.proofs.SmallPair.{Most, fetched-most, faded-most}
+
+abbrev pub Number : Float → Type 0
+Number x = T (not (isNan x))
+
+-- each entry is a number
+abbrev pub Numbers : List Float → Type 0
+Numbers out = (i : ℕ) → i < length out → Number (getD out i nan)
+
+-- ---- a sum
+odd-number : (d : ℕ) (s : Bool) (q k l : ℕ) → Number (odd d s q k l)
+unfolding odd isNan
+odd-number d s zero k l = tt
+odd-number d s (suc q) k l = tt
+
+units-number : (f : Format) (s : Bool) (q k : ℕ) → Number (units f s q k)
+unfolding units isNan
+units-number f s q k = either (ltb (q * 2 ^ k) (2 ^ (low f + suc (emax f))))
+  where
+    either : (t : Bool) → Number (cond t (odd (suc (prec f)) s q k (low f)) (inf s))
+    either true = odd-number (suc (prec f)) s q k (low f)
+    either false = tt
+
+round-number : (f : Format) (s : Bool) (a c : ℕ) → Number (round f s a c)
+unfolding round
+round-number f s a c = units-number f s _ _
+
+sum-number : (f : Format) (s : Bool) (a : ℕ) (t : Bool) (b c : ℕ) → Number (sum f s a t b c)
+unfolding sum
+sum-number f s a t b c = go (Bool·beq s t) (ltb a b)
+  where
+    go : (u v : Bool) → Number (cond u (round f s (a + b) c) (cond v (round f t (b - a) c) (round f (s && ltb b a) (a - b) c)))
+    go true v = round-number f s (a + b) c
+    go false true = round-number f t (b - a) c
+    go false false = round-number f (s && ltb b a) (a - b) c
+
+add-number : (f : Format) (B : ℕ) (x y : Float) → Number x → AtMost B y → Number (add f x y)
+unfolding add isNan
+add-number f B nan y h k = h
+add-number f B (inf s) nan h k = absurd k
+add-number f B (inf s) (inf t) h k = absurd k
+add-number f B (inf s) (fin t n d) h k = tt
+add-number f B (fin s m e) nan h k = absurd k
+add-number f B (fin s m e) (inf t) h k = absurd k
+add-number f B (fin s m e) (fin t n d) h k = sum-number f s (m * up e * down d) t (n * up d * down e) (down e * down d)
+
+-- ---- an entry, a pair, a frame
+add-at-numbers : (e : ℕ) (x : Float) (out : List Float) → AtMost 16 x → Numbers out → Numbers (addAt e x out)
+add-at-numbers e x out k h i l = go (eqb i e) refl
+  where
+    inside : i < length out
+    inside = subst (λ (z : ℕ). i < z) (length-set out e (add binary32 (getD out e nan) x)) l
+
+    go : (t : Bool) → eqb i e ≡ t → Number (getD (addAt e x out) i nan)
+    go true g =
+        subst (λ (z : ℕ). Number (getD (addAt z x out) i nan)) (eqb-true i e g)
+        (subst Number (sym (getD-set-same out i (add binary32 (getD out i nan) x) nan inside)) (add-number binary32 16 (getD out i nan) x (h i inside) k))
+    go false g = subst Number (sym (getD-set-other out e i (add binary32 (getD out e nan) x) nan (eqb-false i e g))) (h i inside)
+
+added-numbers : (n : ℕ) (two : Bool) (j : ℕ) (q : Pair) (out : List Float) → Most q → Numbers out → Numbers (added n two j q out)
+unfolding added
+added-numbers n false j q out k h = add-at-numbers (0 * n + j) (q .left) out (k .0) h
+added-numbers n true j q out k h =
+    add-at-numbers (1 * n + j) (q .right) (addAt (0 * n + j) (q .left) out) (k .1) (add-at-numbers (0 * n + j) (q .left) out (k .0) h)
+
+module _ (rec : List Float) (rn : ℕ) (fade : List Float) (n : ℕ) (two : Bool) where
+  sounded-numbers : (ph : Phase) (p j : ℕ) (out : List Float) → Numbers out → Numbers (sounded rec rn fade n two ph p j out)
+  sounded-numbers ph p j out h = subst Numbers (sym (sounded-as rec rn fade n two ph p j out)) (go (audible rn ph p))
+    where
+      go : (t : Bool) → Numbers (cond t (added n two j (faded fade ph (fetched rec rn two p)) out) out)
+      go true = added-numbers n two j (faded fade ph (fetched rec rn two p)) out (faded-most fade ph (fetched rec rn two p) (fetched-most rec rn two p)) h
+      go false = h
+
+  -- ---- a piece
+  frames-numbers : (j k : ℕ) (x : Heard) → Numbers (x .out) → Numbers (frames rec rn fade n two j k x .out)
+  unfolding frames frame
+  frames-numbers j zero x h = h
+  frames-numbers j (suc k) x h =
+      let y = frames rec rn fade n two j k x in
+      sounded-numbers (settled (length fade) (y .voice .phase)) (y .voice .position) (j + k) (y .out) (frames-numbers j k x h)
+
+  pub mix-numbers : (j k : ℕ) (vs : List Voice) (out : List Float) → Numbers out → Numbers (mix rec rn fade n two j k vs out .out)
+  unfolding mix
+  mix-numbers j k [] out h = h
+  mix-numbers j k (v ∷ vs) out h = mix-numbers j k vs (frames rec rn fade n two j k (lent v out) .out) (frames-numbers j k (lent v out) h)
