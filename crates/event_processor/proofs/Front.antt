@@ -14,7 +14,7 @@ use Rattle.event_processor.specs.declared.Queue.{Queue}
 use Rattle.event_processor.specs.declared.Taken.{Taken}
 use Rattle.event_processor.specs.declared.First.{First}
 use Rattle.event_processor.specs.declared.First.the-variants.{Nothing, Due}
-use Rattle.event_processor.specs.Queue.{firstBefore, inOrderFrom, inOrder, each, pending, without, leave, takenBefore}
+use Rattle.event_processor.specs.Queue.{firstBefore, inOrderFrom, inOrder, each, pending, without, isDue, leave, takenBefore}
 
 -- ---- the answer
 
@@ -26,6 +26,14 @@ pub first-at : (end : ℤ) (es : List Event) (n : ℕ) (z : Event) → 0 < n →
 first-at end es zero z p h = absurd (lt-irrefl 0 p)
 first-at end [] (suc n) z p h = absurd (lt-irrefl 0 h)
 first-at end (x ∷ es) (suc n) z p h = refl
+
+-- whether it is due
+pub due-at : (end : ℤ) (es : List Event) (n : ℕ) (z : Event) → 0 < n → 0 < length es → ltZ (getD es 0 z .time .bits) end ≡ isDue (firstBefore end (take n es))
+due-at end es n z p h = go (ltZ (getD es 0 z .time .bits) end) ∙ ap isDue (sym (first-at end es n z p h))
+  where
+    go : (t : Bool) → t ≡ isDue (cond t (Due (getD es 0 z)) Nothing)
+    go true = refl
+    go false = refl
 
 module _ (end : ℤ) (q : Queue) where
   answer : First → Taken

@@ -1,6 +1,6 @@
 -- "Commands and their queue" of document 01: the events that wait, as a list, what a command and a block do to it, and what each call answers. Definitions only.
 use Prim.Native.Nat.{_+_, _-_}
-use mathlib.Core.Bool.{Bool, true, _&&_, not, cond}
+use mathlib.Core.Bool.{Bool, true, false, _&&_, not, cond}
 use mathlib.Core.List.{List, [], _∷_, _++_}
 use lib.Dec.{leb}
 use lib.IntN.{ℤ}
@@ -74,6 +74,11 @@ unfoldable pub received : Event → Queue → QueueAnswer
 received e q =
     cond (queueFull e q) (record { number = 9; queue = q })
     (record { number = 0; queue = entered e (cond (isCancelAll (e .kind)) emptyQueue q) })
+
+-- an event is due
+abbrev pub isDue : First → Bool
+isDue Nothing = false
+isDue (Due e) = true
 
 -- what is due "is taken"
 abbrev pub leave : First → Queue → Queue

@@ -8,7 +8,7 @@ ghost use mathlib.Core.List.{[], _∷_, _++_};
 ghost use Prim.Native.Nat.{_+_, _≤_, _<_};
 ghost use lib.ListN.{take, drop};
 ghost use Rattle.sampler_event.specs.Events.{blankEvent};
-ghost use Rattle.event_processor.specs.Queue.{insert, pending, emptyQueue, entered, received, takenBefore};
+ghost use Rattle.event_processor.specs.Queue.{insert, firstBefore, pending, emptyQueue, entered, received, isDue, takenBefore};
 
 // The first `count` places hold the events that wait, sorted by time, equal times by submission.
 pub struct Queue {
@@ -51,18 +51,41 @@ fn moved_up(events: [Event; 16], k: usize, n: usize, event: Event) -> [Event; 16
     out
 }
 
-// The array without its first, the rest moved down, a blank at the end.
-fn moved_down(events: [Event; 16]) -> [Event; 16]
-    ensures { λ r. ⌜ r ≡ drop 1 events ++ blankEvent ∷ [] ⌝ }
+// The first n places with what stood one place on.
+fn lowered(events: [Event; 16], n: usize) -> [Event; 16]
+    requires { ⌜ n < 16 ⌝ }
+    ensures { λ r. ⌜ r ≡ take n (drop 1 events) ++ drop n events ⌝ }
 {
     let mut out = events;
     let mut i: usize = 0;
+    while i < n {
+        out[i] = events[i + 1];
+        i += 1;
+    }
+    out
+}
+
+// The array without its first, the rest moved down, a blank at the end. In two loops that meet at n, so that
+// the compiler can count neither: it would unroll one loop of 15, and then copy every queue event by event.
+fn moved_down(events: [Event; 16], n: usize) -> [Event; 16]
+    requires { ⌜ n < 16 ⌝ }
+    ensures { λ r. ⌜ r ≡ drop 1 events ++ blankEvent ∷ [] ⌝ }
+{
+    let mut out = lowered(events, n);
+    let mut i = n;
     while i < 15 {
         out[i] = events[i + 1];
         i += 1;
     }
     out[15] = Event::blank();
     out
+}
+
+// Where the two loops meet: at n, or at 15.
+fn split_at(n: usize) -> usize
+    ensures { λ r. ⌜ r < 16 ⌝ }
+{
+    if n < 16 { n } else { 15 }
 }
 
 // ---- event_processor.rs
@@ -129,6 +152,18 @@ impl Queue {
         QueueAnswer { number: 0, queue }
     }
 
+    // Whether there is an event for next_event_before to take, with no queue copied.
+    pub fn is_due(self, end: Timestamp) -> bool
+        ensures { λ r. ⌜ r ≡ isDue (firstBefore (end .bits) (pending self)) ⌝ }
+    {
+        let n = self.count;
+        if n == 0 {
+            return false;
+        }
+        let event = self.events[0];
+        event.time.is_before(end)
+    }
+
     pub fn next_event_before(self, end: Timestamp) -> Taken
         ensures { λ r. ⌜ r ≡ takenBefore (end .bits) self ⌝ }
     {
@@ -143,7 +178,7 @@ impl Queue {
         let time = event.time;
         if time.is_before(end) {
             let events = self.events;
-            let moved = moved_down(events);
+            let moved = moved_down(events, split_at(n - 1));
             let queue = Queue {
                 events: moved,
                 count: n - 1,

@@ -4,22 +4,6 @@ use libc::STDOUT_FILENO;
 use sampler_processor::Leg;
 use sampler_processor::LegAnswer;
 use timestamp::Timestamp;
-ghost use Prim.Native.Nat.{_+_, _≤_};
-
-// The number's 8 bytes, the lowest first, from `at` on.
-fn put(bytes: [u8; 26], at: usize, number: u64) -> [u8; 26]
-    requires { ⌜ at + 8 ≤ 26 ⌝ }
-{
-    let mut out = bytes;
-    let mut left = number;
-    let mut i: usize = 0;
-    while i < 8 {
-        out[at + i] = (left % 256) as u8;
-        left = left / 256;
-        i += 1;
-    }
-    out
-}
 
 // A call that is refused is one line more.
 fn taken(answer: LegAnswer) -> Leg {
@@ -29,33 +13,18 @@ fn taken(answer: LegAnswer) -> Leg {
     answer.leg
 }
 
-// A time that is not negative, in 64 bits.
-fn word(z: i64) -> u64 {
-    if z < 0 {
-        return 0;
-    }
-    z as u64
-}
-
 // A command at time 0.
 fn told(leg: Leg, kind: u8, first: Timestamp, second: Timestamp) -> Leg {
     let mut bytes = [0u8; 26];
     bytes[0] = kind;
-    let one = put(bytes, 10, word(first.bits));
-    let both = put(one, 18, word(second.bits));
-    taken(leg.submit(&both))
+    words::put(&mut bytes, 10, 8, words::signed_bits(first.bits));
+    words::put(&mut bytes, 18, 8, words::signed_bits(second.bits));
+    taken(leg.submit(&bytes))
 }
 
-fn print_bits(bits: u32) {
-    io::print_hex(STDOUT_FILENO, bits as u64, 8);
-    io::write_all(STDOUT_FILENO, b"\n");
-}
-
-// A sample that is a NaN has no bits of its own, and is no line.
 fn print(x: f32) {
-    if x == x {
-        print_bits(f32::to_bits(x));
-    }
+    io::print_hex(STDOUT_FILENO, words::float_bits(x) as u64, 8);
+    io::write_all(STDOUT_FILENO, b"\n");
 }
 
 fn print_samples(samples: &[f32], from: usize, to: usize) {

@@ -297,7 +297,7 @@ pub struct EventAnswer {
 }
 
 // 64 bits as a signed number.
-fn as_i64(u: u64) -> i64
+pub fn as_i64(u: u64) -> i64
     ensures { λ r. ⌜ r ≡ asI64 u ⌝ }
 {
     if u < 0x8000_0000_0000_0000 {

@@ -61,7 +61,7 @@ module _ (s : Setup) (x : ℕ) (from end : Timestamp) (p : Player) (i : Looping 
   abbrev st : ℕ
   st = natAbs (p .start .bits)
 
-  length-pos : end .bits -ℤ from .bits ≡ pos (i .loop .len)
+  pub length-pos : end .bits -ℤ from .bits ≡ pos (i .loop .len)
   length-pos =
       minus-pos (end .bits -ℤ from .bits) (i .loop .len + i .loop .a + 0) (0 + i .loop .a) (i .loop .len)
       (less-minus (end .bits) (from .bits) (i .loop .len + i .loop .a) 0 (i .loop .a) 0 (at (end .bits) (i .loop .len + i .loop .a) (i .loop .finish)) (at (from .bits) (i .loop .a) (i .loop .start)))

@@ -10,8 +10,8 @@ use lib.ListN.{length}
 use lib.Ieee.{Float}
 use Rattle.sampler_voice.specs.declared.Voice.{Voice}
 use Rattle.sampler_voice.specs.Sound.{Room}
-use Rattle.sampler_voice.specs.Voices.{isStopped, Ahead}
-use Rattle.sampler_player.specs.Sound.{fadeGood, voicesKept}
+use Rattle.sampler_voice.specs.Voices.{isStopped, fadeGood, Ahead}
+use Rattle.sampler_player.specs.Sound.{voicesKept}
 use Rattle.sampler_player.proofs.Kept.{one-of, other-of}
 use Rattle.sampler_player.proofs.Voice.{voice-opened}
 

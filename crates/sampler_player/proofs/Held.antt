@@ -10,11 +10,11 @@ use lib.Ieee.{Float}
 use Rattle.sampler_voice.specs.declared.Phase.{Phase}
 use Rattle.sampler_voice.specs.declared.Phase.the-variants.{Stopped, FadingIn, Playing, FadingOut}
 use Rattle.sampler_voice.specs.declared.Voice.{Voice}
-use Rattle.sampler_voice.specs.Voices.{isStopped, ended, endedVoice, settled, nextPhase, Heard, lent, frame, frames, mix}
+use Rattle.sampler_voice.specs.Voices.{isStopped, isHeld, ended, endedVoice, settled, nextPhase, Heard, lent, frame, frames, mix}
 use Rattle.sampler_player.specs.declared.Active.{Active}
 use Rattle.sampler_player.specs.declared.Active.the-variants.{Neither, Number}
 use Rattle.sampler_player.specs.Assign.{oneMore, firstStopped, startIn}
-use Rattle.sampler_player.specs.Sound.{isHeld, noneHeld, onlyHeld, activeGood}
+use Rattle.sampler_player.specs.Sound.{noneHeld, onlyHeld, activeGood}
 use Rattle.sampler_player.proofs.Kept.{both, one-of, other-of}
 
 -- ---- Stop

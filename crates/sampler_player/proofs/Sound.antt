@@ -10,12 +10,12 @@ use lib.Dec.{leb, ltb}
 use lib.IntN.{ℤ, pos, negsuc, negℤ}
 use lib.Signed.{ltZ}
 use Rattle.sampler_voice.specs.declared.Voice.{Voice}
-use Rattle.sampler_voice.specs.Voices.{isStopped}
+use Rattle.sampler_voice.specs.Voices.{isStopped, fadeGood}
 use Rattle.sampler_event.specs.Rules.{within}
 use Rattle.sampler_player.specs.declared.Setup.{Setup}
 use Rattle.sampler_player.specs.declared.Player.{Player}
 use Rattle.sampler_player.specs.Assign.{quiet}
-use Rattle.sampler_player.specs.Sound.{anyFar, farBad, fadeGood, activeGood, voicesGood, loopGood, playerGood, voicesKept, kept}
+use Rattle.sampler_player.specs.Sound.{anyFar, farBad, activeGood, voicesGood, loopGood, playerGood, voicesKept, kept}
 use Rattle.sampler_player.proofs.Kept.{both, one-of, other-of, neither-one, neither-other, opened, closed, stands-within}
 
 -- ---- the tests of `playerGood`

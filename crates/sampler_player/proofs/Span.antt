@@ -1,6 +1,6 @@
 -- A loop in numbers, for the code: the sizes of its points, of its length and of the first end, from `kept`; T of a recording; and when the code's count of loops says to catch up.
 -- The idea: `Looping` (proofs/Due) has the points as natural numbers of at most 2 ^ 42. Assumes nothing.
-use Prim.Native.Nat.{ℕ, zero, suc, _+_, _-_, _*_, _^_, _≤_, _<_}
+use Prim.Native.Nat.{ℕ, suc, _+_, _-_, _*_, _^_, _≤_, _<_}
 use native.Mathlib.Nat.{mul-le-mul-left}
 use native.Mathlib.Omega.{arith}
 use mathlib.Core.Path.{_≡_, refl, sym, ap, _∙_, subst, subst₂}
@@ -8,7 +8,7 @@ use mathlib.Core.Bool.{true, false}
 use borrow.Author.Tests.{lt-ltb, le-ltb}
 use lib.IntN.{ℤ, pos, negsuc, natAbs, _-ℤ_}
 use lib.Signed.{ltZ}
-use Rattle.laws.proofs.Minus.{nat-minus, minus-pos, size-minus}
+use Rattle.laws.proofs.Minus.{nat-minus, size-minus}
 use Rattle.timestamp.specs.declared.Timestamp.{Timestamp}
 use Rattle.timestamp.specs.Time.{timeOf}
 use Rattle.timestamp.proofs.Time.{T-wide}
@@ -18,7 +18,8 @@ use Rattle.sampler_player.specs.declared.Player.{Player}
 use Rattle.sampler_player.specs.Clock.{notNegative}
 use Rattle.sampler_player.specs.Sound.{kept}
 use Rattle.sampler_player.specs.Stroke.{loopLength, reaching}
-use Rattle.sampler_player.proofs.Due.{Looping, looping, length-is}
+use Rattle.sampler_player.proofs.Due.{Looping, looping, length-pos, length-is}
+use Rattle.sampler_player.proofs.Target.{long-some}
 use Rattle.sampler_player.proofs.Sized.{stands-size}
 use Rattle.sampler_player.proofs.Ends.{few-reach, many-reach}
 
@@ -34,16 +35,7 @@ pub record Span (from end : Timestamp) (p : Player) : Type 0 where
   pub position-size : natAbs (p .position .bits) ≤ 2 ^ 49
   pub few : p .completed ≤ 2 ^ 27
 
-some-units : (len R : ℕ) → 63 * 2 ^ 32 ≤ len * R → 0 < len
-some-units zero R h = absurd (omega arith)
-some-units (suc n) R h = omega arith
-
 module _ (s : Setup) (x : ℕ) (from end : Timestamp) (p : Player) (i : Looping s x from end p) where
-  length-pos : end .bits -ℤ from .bits ≡ pos (i .loop .len)
-  length-pos =
-      subst₂ (λ (y z : ℤ). y -ℤ z ≡ pos (i .loop .len)) (sym (i .loop .finish)) (sym (i .loop .start))
-      (minus-pos (pos (i .loop .len + i .loop .a) -ℤ pos (i .loop .a)) (i .loop .len + i .loop .a) (i .loop .a) (i .loop .len) (nat-minus (i .loop .len + i .loop .a) (i .loop .a)) refl)
-
   sizes : Span from end p
   sizes =
       let e = i .loop .early in
@@ -51,7 +43,7 @@ module _ (s : Setup) (x : ℕ) (from end : Timestamp) (p : Player) (i : Looping 
       let a = ap natAbs (i .loop .start) in
       let b = ap natAbs (i .loop .finish) in
       let t = i .begun .most in
-      let n = some-units (i .loop .len) (s .rate) (i .loop .long) in
+      let n = long-some (i .loop .len) (s .rate) (i .loop .long) in
       record {
         from-size = omega (arith, a, e);
         end-size = omega (arith, b, e);
@@ -59,7 +51,7 @@ module _ (s : Setup) (x : ℕ) (from end : Timestamp) (p : Player) (i : Looping 
         first-size =
             subst₂ (λ (y z : ℤ). natAbs (y -ℤ z) ≤ 2 ^ 42) (sym (i .loop .finish)) (sym (i .begun .is))
             (size-minus (pos (i .loop .len + i .loop .a) -ℤ pos (natAbs (p .start .bits))) (i .loop .len + i .loop .a) (natAbs (p .start .bits)) (2 ^ 42) e t (nat-minus (i .loop .len + i .loop .a) (natAbs (p .start .bits))));
-        length = length-pos ∙ ap pos (sym l);
+        length = length-pos s x from end p i ∙ ap pos (sym l);
         some-length = omega (arith, l, n);
         length-size = omega (arith, l, e);
         position-size = stands-size x (p .position .bits) (i .here);

@@ -44,7 +44,7 @@ above-pos a (negsuc n) h = absurd (false≢true h)
 size-below : (z : ℤ) (a b n : ℕ) → z ≡ pos n → Minus z a b → n ≤ a
 size-below z a b n e m = let k : n + b ≡ a = subst (λ (y : ℤ). Minus y a b) e m in omega arith
 
-long-some : (len R : ℕ) → 63 * 2 ^ 32 ≤ len * R → 0 < len
+pub long-some : (len R : ℕ) → 63 * 2 ^ 32 ≤ len * R → 0 < len
 long-some zero R h = absurd (omega arith)
 long-some (suc n) R h = omega arith
 

@@ -8,8 +8,7 @@ use borrow.Author.Tests.{lt-ltb, ltb-true, le-leb, leb-true}
 use lib.Dec.{ltb, leb, eqb}
 use Rattle.sampler_voice.specs.declared.Phase.{Phase}
 use Rattle.sampler_voice.specs.declared.Phase.the-variants.{Stopped, FadingIn, Playing, FadingOut}
-use Rattle.sampler_voice.specs.Voices.{isStopped, startedAt, ended, settled, nextPhase, nextPosition}
-use Rattle.sampler_player.specs.Sound.{fadeGood}
+use Rattle.sampler_voice.specs.Voices.{isStopped, fadeGood, startedAt, ended, settled, nextPhase, nextPosition}
 use Rattle.sampler_player.proofs.Kept.{both, one-of, other-of}
 
 -- one voice, at p in a phase, with x frames to come

@@ -1,14 +1,12 @@
 -- What number 8 and "A leg is damaged unless" (14) ask of what plays, and what its numbers stay within while a block goes on. Definitions only.
-use Prim.Native.Nat.{ℕ, zero, suc, _+_, _*_, _-_, _^_, max}
+use Prim.Native.Nat.{ℕ, zero, suc, _+_, _*_, _-_, _^_}
 use mathlib.Core.Bool.{Bool, true, false, _&&_, _||_, not}
 use mathlib.Core.List.{List, [], _∷_}
 use lib.Dec.{leb, ltb}
 use lib.IntN.{ℤ, pos, negℤ}
 use lib.Signed.{ltZ}
-use Rattle.sampler_voice.specs.declared.Phase.{Phase}
-use Rattle.sampler_voice.specs.declared.Phase.the-variants.{Stopped, FadingIn, Playing, FadingOut}
 use Rattle.sampler_voice.specs.declared.Voice.{Voice}
-use Rattle.sampler_voice.specs.Voices.{isStopped}
+use Rattle.sampler_voice.specs.Voices.{isStopped, isHeld, fadeGood}
 use Rattle.sampler_event.specs.Rules.{within}
 use Rattle.sampler_event.specs.Limits.{placeBad, loopShort}
 use Rattle.sampler_player.specs.declared.Active.{Active}
@@ -29,12 +27,6 @@ farBad p = ltZ (pos (2 ^ 48)) (p .position .bits) || anyFar (p .voices)
 -- ---- 14: "A leg is damaged unless", of what plays
 
 -- "active names a voice that is FadingIn or Playing while the other is Stopped or FadingOut, or is none and no voice is FadingIn or Playing"
-abbrev pub isHeld : Phase → Bool
-isHeld Stopped = false
-isHeld (FadingIn i) = true
-isHeld Playing = true
-isHeld (FadingOut i) = false
-
 abbrev pub noneHeld : List Voice → Bool
 noneHeld [] = true
 noneHeld (v ∷ vs) = not (isHeld (v .phase)) && noneHeld vs
@@ -48,14 +40,7 @@ abbrev pub activeGood : Active → List Voice → Bool
 activeGood Neither vs = noneHeld vs
 activeGood (Number i) vs = onlyHeld i vs
 
--- "fade positions are below F, or 0 when F is 0": below the larger of F and 1
-abbrev pub fadeGood : ℕ → Phase → Bool
-fadeGood F Stopped = true
-fadeGood F (FadingIn i) = ltb i (max F 1)
-fadeGood F Playing = true
-fadeGood F (FadingOut i) = ltb i (max F 1)
-
--- "voice positions at most 2^40"
+-- "fade positions are below F, or 0 when F is 0; voice positions at most 2^40"
 abbrev pub voicesGood : ℕ → List Voice → Bool
 voicesGood F [] = true
 voicesGood F (v ∷ vs) = (fadeGood F (v .phase) && leb (v .position) (2 ^ 40)) && voicesGood F vs

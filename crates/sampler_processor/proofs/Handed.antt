@@ -1,7 +1,7 @@
 -- The leg that a render hands back is sound, if it was given a sound one.
 -- The idea: through the block what plays stays within `kept`, and what waits on is the queue less its first events. Assumes nothing.
 use mathlib.Core.Path.{_≡_, refl, sym, ap, _∙_, subst}
-use mathlib.Core.Bool.{Bool, true, false}
+use mathlib.Core.Bool.{Bool, true, false, and-eq-true-iff}
 use mathlib.Core.List.{List, [], _∷_, _++_}
 use Prim.Native.Nat.{ℕ, zero, suc, _-_, _^_, _≤_, _<_}
 use native.Mathlib.Nat.{le-trans, le-of-eq, sub-le}
@@ -33,7 +33,7 @@ use Rattle.sampler_processor.proofs.Admitted.{Admitted, admitted}
 use Rattle.sampler_processor.proofs.Legs.{parts, whole, queued, queue-whole}
 use Rattle.sampler_processor.proofs.Events.{leftWhere, waiting, left-over, same-block}
 use Rattle.sampler_processor.proofs.Blocks.{kept-through}
-use Rattle.sampler_processor.proofs.Turns.{one-of, ordered-all, all-fit, length-pending}
+use Rattle.sampler_processor.proofs.Turns.{ordered-all, all-fit, length-pending}
 use Rattle.sampler_processor.proofs.NoFrames.{no-frames}
 use Rattle.sampler_processor.proofs.Renders.{ready, near}
 
@@ -42,7 +42,7 @@ use Rattle.sampler_processor.proofs.Renders.{ready, near}
 -- the rest of events in order
 rest-order : (e : Event) (es : List Event) → inOrder (e ∷ es) ≡ true → inOrder es ≡ true
 rest-order e [] h = refl
-rest-order e (x ∷ es) h = one-of (leZ (e .time .bits) (x .time .bits)) (inOrderFrom (x .time .bits) es) h .1
+rest-order e (x ∷ es) h = and-eq-true-iff (leZ (e .time .bits) (x .time .bits)) (inOrderFrom (x .time .bits) es) .0 h .1
 
 -- a place freed is a place still
 one-more : (es : List Event) → length (es ++ blankEvent ∷ []) ≡ suc (length es)
@@ -72,7 +72,7 @@ module _ (s : Setup) where
     pending-without q (le-trans (w .1) (le-of-eq (sym (w .2)))) ∙ ap (drop 1) (w .0),
     le-trans (sub-le (q .count) 1) (w .1),
     places-left (q .events) (w .2),
-    one-of (admissible (s .rate) (s .fade) e) (each (admissible (s .rate) (s .fade)) es) (w .3) .1,
+    and-eq-true-iff (admissible (s .rate) (s .fade) e) (each (admissible (s .rate) (s .fade)) es) .0 (w .3) .1,
     rest-order e es (w .4),
   )
 

@@ -58,6 +58,10 @@ pub queue-whole : (s : Setup) (q : Queue) → Queued s q → queueGood s q ≡ t
 unfolding queueGood
 queue-whole s q k = rw (le-leb (q .count) 16 (k .few), k .each-one, k .ordered) refl
 
+pub none-waits : (s : Setup) (q : Queue) → q .count ≡ 0 → queueGood s q ≡ true
+unfolding queueGood
+none-waits s q e = rw e refl
+
 -- ---- fresh, and blank
 
 quiet-good : (s : Setup) → playerGood s quiet ≡ true

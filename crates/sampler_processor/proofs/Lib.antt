@@ -15,12 +15,13 @@ pub mod Output
 pub mod Answers
 pub mod Readings
 -- Events: each event below the block's end is applied, at its floor frame. Blocks: through a block what plays stays within its limits. Segments: how a segment counts its
--- pieces. Times: sums of times that fit. Turns: what the block's loop carries. NoFrames: a block of no frames changes nothing. Renders: what a render
+-- pieces. Times: sums of times that fit. NoneDue: a block in which no event is due. Turns: what the block's loop carries. NoFrames: a block of no frames changes nothing. Renders: what a render
 -- gives its block, and answers. Handed: the leg that a render hands back is sound. NoNan: no sample that it renders is a NaN.
 pub mod Events
 pub mod Segments
 pub mod Blocks
 pub mod Times
+pub mod NoneDue
 pub mod Turns
 pub mod NoFrames
 pub mod Renders

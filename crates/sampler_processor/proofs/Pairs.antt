@@ -9,7 +9,8 @@ use borrow.Author.Tests.{ne-eqb}
 use lib.Dec.{eqb}
 use lib.ListN.{length, getD}
 use Rattle.sampler_voice.specs.declared.Voice.{Voice}
-use Rattle.sampler_player.specs.Sound.{isHeld, onlyHeld}
+use Rattle.sampler_voice.specs.Voices.{isHeld}
+use Rattle.sampler_player.specs.Sound.{onlyHeld}
 
 pub pair : (vs : List Voice) (d : Voice) → length vs ≡ 2 → vs ≡ getD vs 0 d ∷ getD vs 1 d ∷ []
 pair [] d h = absurd (omega arith)

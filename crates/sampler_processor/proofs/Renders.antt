@@ -19,9 +19,7 @@ use Rattle.sampler_player.specs.Sound.{kept}
 use Rattle.sampler_player.proofs.Sound.{good-kept}
 use Rattle.sampler_processor.specs.declared.Leg.{Leg}
 use Rattle.sampler_processor.specs.Numbers.{recordingLong, fadeLong, renderOrder}
-use Rattle.sampler_processor.specs.Block.{Ended, block}
 use Rattle.sampler_processor.specs.Calls.{Rendered, renderedTo, renderedBy, render}
-use Rattle.sampler_processor.specs.Stands.{Left, leftOf}
 use Rattle.sampler_processor.proofs.Admitted.{Admitted, admitted}
 use Rattle.sampler_processor.proofs.Legs.{parts, sound-sized}
 use Rattle.sampler_processor.proofs.Sizes.{neither, channels-in}
@@ -87,14 +85,6 @@ module _ (l : Leg) (b : Lent) (out : List Float) (start : ℤ) where
       go (suc k) z t = refl
 
   -- a block
-  abbrev byBlock : Left → ℕ → Rendered
-  byBlock e n = record { answer = record { number = n; leg = record { setup = l .setup; player = e .end .player; queue = e .end .queue }; pieces = e .end .pieces }; out = e .out }
-
-  pub rendered-block : (n : ℕ) → n ≡ firstBroken (renderOrder l b out start) → n ≡ 0 → (e : Left)
-      → e ≡ leftOf (block (l .setup) b start (pending (l .queue)) (l .queue) (record { player = l .player; out = out; done = 0; now = start; pieces = 0 }))
-      → byBlock e n ≡ render l b out start
+  pub rendered-block : (n : ℕ) → n ≡ firstBroken (renderOrder l b out start) → n ≡ 0 → renderedBy 0 l b out start ≡ render l b out start
   unfolding render
-  rendered-block n e z d h =
-      ap (λ (x : Left). byBlock x n) h
-      ∙ ap (byBlock (leftOf (block (l .setup) b start (pending (l .queue)) (l .queue) (record { player = l .player; out = out; done = 0; now = start; pieces = 0 })))) z
-      ∙ ap (λ (k : ℕ). renderedBy k l b out start) (sym z ∙ e)
+  rendered-block n e z = ap (λ (k : ℕ). renderedBy k l b out start) (sym z ∙ e)

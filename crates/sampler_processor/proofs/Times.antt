@@ -4,16 +4,15 @@ use mathlib.Core.Path.{_≡_, refl, sym, ap, _∙_, subst}
 use mathlib.Core.Bool.{Bool, true, false, cond, _&&_}
 use mathlib.Core.Option.{Option, none, some}
 use Prim.Native.Nat.{ℕ, suc, _+_, _-_, _*_, _^_, _≤_, _<_}
-use native.Mathlib.Nat.{lt-of-lt-of-le, le-trans}
+use native.Mathlib.Nat.{le-trans}
 use native.Mathlib.Omega.{arith}
-use lib.Dec.{T, leb, ltb, leb→le, le→leb, lit≤}
+use lib.Dec.{T, leb, leb→le, le→leb, lit≤}
 use lib.IntN.{ℤ, pos, negsuc, negℤ, natAbs, _+ℤ_, _-ℤ_}
 use lib.Signed.{mag, leZ}
 use borrow.Author.Tests.{lt-ltb}
 use mir.Syntax.{w64}
 use mir.Val.{SFits}
 use Rattle.laws.proofs.Minus.{nat-minus, fits64}
-use Rattle.laws.proofs.Tests.{yes}
 use Rattle.timestamp.specs.Time.{timeOf, later}
 use Rattle.timestamp.specs.Answer.{made, plus, minus}
 use Rattle.timestamp.proofs.Time.{T-near}
@@ -36,26 +35,7 @@ true-is {b = false} t = absurd t
 pub up-to : (m : ℕ) (z : ℤ) → T (within (pos 0) (pos m) z) → UpTo m z
 up-to m z t = within-up m z (true-is t)
 
--- a delay fits
-pub delay-fits : (z : ℤ) → T (within (negℤ (pos (2 ^ 20))) (pos (2 ^ 49)) z) → SFits w64 z
-delay-fits (pos n) t = record { sfits = lt-of-lt-of-le (small n (2 ^ 49) (leb→le n (2 ^ 49) (second (leZ (negℤ (pos (2 ^ 20))) (pos n)) (leb n (2 ^ 49)) t))) (lit≤ tt) }
-  where
-    second : (a b : Bool) → T (a && b) → T b
-    second true b t = t
-    second false b t = absurd t
-
-    small : (n m : ℕ) → n ≤ m → n < m + 1
-    small n m h = omega arith
-delay-fits (negsuc n) t = record { sfits = lt-of-lt-of-le (less n (leb→le n 1048575 (first (leb n 1048575) true t))) (lit≤ tt) }
-  where
-    first : (a b : Bool) → T (a && b) → T a
-    first true b t = tt
-    first false b t = absurd t
-
-    less : (n : ℕ) → n ≤ 1048575 → n < 1048576
-    less n h = omega arith
-
--- and is within the reach of an event
+-- a delay is within the reach of an event
 pub delay-size : (z : ℤ) → T (within (negℤ (pos (2 ^ 20))) (pos (2 ^ 49)) z) → natAbs z ≤ 2 ^ 49
 delay-size (pos n) t = leb→le n (2 ^ 49) (second (leZ (negℤ (pos (2 ^ 20))) (pos n)) (leb n (2 ^ 49)) t)
   where
@@ -70,6 +50,11 @@ delay-size (negsuc n) t = le-trans (more n (leb→le n 1048575 (first (leb n 104
 
     more : (n : ℕ) → n ≤ 1048575 → suc n ≤ 1048576
     more n h = omega arith
+
+-- and fits
+pub delay-fits : (z : ℤ) → T (within (negℤ (pos (2 ^ 20))) (pos (2 ^ 49)) z) → SFits w64 z
+delay-fits (pos n) t = let h = delay-size (pos n) t in record { sfits = omega (arith, h) }
+delay-fits (negsuc n) t = let h = delay-size (negsuc n) t in record { sfits = omega (arith, h) }
 
 -- a time of a block, n frames later
 pub later-fits : (R n : ℕ) (t : ℤ) → 8000 ≤ R → R ≤ 96000 → n ≤ 4096 → UpTo (2 ^ 49) t → SFits w64 (t +ℤ timeOf R n)

@@ -1,12 +1,11 @@
 -- What the block's loop carries from turn to turn: that the rest of the block from here is the whole block's end, where the block stands, and that what plays and waits is in its limits.
 -- The idea: a turn is one step of the definition's recursion on the events that wait. Assumes nothing.
 use mathlib.Core.Path.{_≡_, refl, sym, ap, ap₂, _∙_, subst}
-use mathlib.Core.Bool.{Bool, true, false, cond, _&&_}
+use mathlib.Core.Bool.{Bool, true, false, cond, _&&_, and-eq-true-iff}
 use mathlib.Core.List.{List, [], _∷_}
 use Prim.Native.Nat.{ℕ, zero, suc, _+_, _-_, _*_, _/_, _^_, _≤_, _<_}
 use native.Mathlib.Nat.{mul-le-mul-right, le-refl, le-trans, le-of-lt, le-of-eq, sub-le, sub-zero}
 use native.Mathlib.Omega.{arith}
-use lib.Dec.{T, ltb}
 use borrow.Author.Tests.{lt-ltb, leb-true, le-leb}
 use lib.IntN.{ℤ, pos, negsuc, negℤ, natAbs, _+ℤ_, _-ℤ_}
 use lib.ListN.{length, drop, take, length-take}
@@ -38,20 +37,17 @@ use Rattle.sampler_player.proofs.Applied.{apply-kept}
 use Rattle.sampler_processor.specs.Numbers.{queueGood}
 use Rattle.sampler_processor.specs.Block.{Running, Ended, frameOf, blockEnd, upTo, applied, onward, block}
 use Rattle.sampler_processor.proofs.Legs.{queued}
+use Rattle.sampler_processor.proofs.NoneDue.{none-due}
 use Rattle.sampler_processor.proofs.Events.{Ordered, Stands, end-is, below-end, frame-is, frame-ahead, stands-next, stands-first}
 use Rattle.sampler_processor.proofs.Blocks.{Fit, AllFit, Delayed, delayed, event-kept, up-to-kept, reached, applied-done}
 use Rattle.sampler_processor.proofs.Segments.{segment-pieces}
 
 -- ---- a queue in order is a list of events in order, each admitted
-pub one-of : (a b : Bool) → (a && b) ≡ true → (a ≡ true) × (b ≡ true)
-one-of true b h = (refl, h)
-one-of false b h = absurd (mathlib.Core.Bool.false≢true h)
-
 ordered-from : (R F lo : ℕ) (l : List Event) → each (admissible R F) l ≡ true → inOrderFrom (pos lo) l ≡ true → Ordered lo l
 ordered-from R F lo [] h o = tt
 ordered-from R F lo (e ∷ es) h o =
-    let a = one-of (admissible R F e) (each (admissible R F) es) h in
-    let b = one-of (leZ (pos lo) (e .time .bits)) (inOrderFrom (e .time .bits) es) o in
+    let a = and-eq-true-iff (admissible R F e) (each (admissible R F) es) .0 h in
+    let b = and-eq-true-iff (leZ (pos lo) (e .time .bits)) (inOrderFrom (e .time .bits) es) .0 o in
     let u = time-up e (admitted R F e (a .0) .time) in (
       natAbs (e .time .bits),
       u .is,
@@ -62,14 +58,14 @@ ordered-from R F lo (e ∷ es) h o =
 pub ordered-all : (R F : ℕ) (l : List Event) → each (admissible R F) l ≡ true → inOrder l ≡ true → Ordered 0 l
 ordered-all R F [] h o = tt
 ordered-all R F (e ∷ es) h o =
-    let a = one-of (admissible R F e) (each (admissible R F) es) h in
+    let a = and-eq-true-iff (admissible R F e) (each (admissible R F) es) .0 h in
     let u = time-up e (admitted R F e (a .0) .time) in
     (natAbs (e .time .bits), u .is, Prim.Native.Nat.zero-le, ordered-from R F (natAbs (e .time .bits)) es (a .1) (ap (λ (z : ℤ). inOrderFrom z es) (sym (u .is)) ∙ o))
 
 pub all-fit : (s : Setup) (l : List Event) → each (admissible (s .rate) (s .fade)) l ≡ true → AllFit s l
 all-fit s [] h = tt
 all-fit s (e ∷ es) h =
-    let a = one-of (admissible (s .rate) (s .fade) e) (each (admissible (s .rate) (s .fade)) es) h in
+    let a = and-eq-true-iff (admissible (s .rate) (s .fade) e) (each (admissible (s .rate) (s .fade)) es) .0 h in
     let m = admitted (s .rate) (s .fade) e (a .0) in
     ((m .places, m .loop), all-fit s es (a .1))
 
@@ -205,7 +201,7 @@ module _ (s : Setup) (b : Lent) (s0 : ℕ) (Z : Ended) (q : Queue) (r : Running)
       let n : u .k + length (x ∷ xs) ≤ 16 = subst (λ (l : List Event). u .k + length l ≤ 16) p (u .few) in
       let t = o .0 in
       let F = (t - s0) * s .rate / 2 ^ 32 in
-      let d = one-of (admissible (s .rate) (s .fade) x) (each (admissible (s .rate) (s .fade)) xs) c in
+      let d = and-eq-true-iff (admissible (s .rate) (s .fade) x) (each (admissible (s .rate) (s .fade)) xs) .0 c in
       let m = below-end s b s0 (u .low) (u .high) (u .some-frames) (u .few-frames) x t (o .1) h in
       let e = frame-is s b s0 (u .low) (u .high) (u .some-frames) (u .few-frames) x t (u .lo) (u .k) r (o .1) (o .2) m (omega (arith, n)) (u .at) in
       let v = frame-ahead s b s0 (u .low) (u .high) (u .some-frames) (u .few-frames) t (u .lo) (u .k) r (o .2) m (u .at) in
@@ -271,18 +267,8 @@ module _ (s : Setup) (b : Lent) (s0 : ℕ) (Z : Ended) (q : Queue) (r : Running)
   turn-due e f = turn-list (pending q) refl e f
 
   -- ---- none is due: the rest of the block
-  last-list : (l : List Event) → pending q ≡ l → firstBefore (blockEnd s b (pos s0)) l ≡ Nothing → block s b (pos s0) l q r ≡ record { running = upTo s b (pos s0) (b .block) r; queue = q }
-  unfolding block
-  last-list [] p f = refl
-  last-list (x ∷ xs) p f =
-      go (ltZ (x .time .bits) (blockEnd s b (pos s0))) f
-    where
-      go : (y : Bool) → cond y (Due x) Nothing ≡ Nothing → onward s b (pos s0) (λ w t. block s b (pos s0) xs w t) x q r (ltb (r .done) (b .block) && y) ≡ record { running = upTo s b (pos s0) (b .block) r; queue = q }
-      go true g = cc
-      go false g = ap (λ (z : Bool). onward s b (pos s0) (λ w t. block s b (pos s0) xs w t) x q r (z && false)) (lt-ltb (r .done) (b .block) (u .at .inside))
-
   pub turn-last : firstBefore (blockEnd s b (pos s0)) (pending q) ≡ Nothing → Z ≡ record { running = upTo s b (pos s0) (b .block) r; queue = q }
-  turn-last f = sym (u .is) ∙ last-list (pending q) refl f
+  turn-last f = sym (u .is) ∙ none-due s b (pos s0) (pending q) q r f
 
 -- ---- the queue that is left, and that there was an event to take
 pub due-left : (end : ℤ) (q : Queue) (e : Event) → firstBefore end (pending q) ≡ Due e → takenBefore end q .queue ≡ without q

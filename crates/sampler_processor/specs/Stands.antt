@@ -5,12 +5,19 @@ use lib.Ieee.{Float}
 use lib.IntN.{_-ℤ_}
 use Rattle.sampler_event.specs.declared.Event.{Event}
 use Rattle.sampler_player.specs.Events.{apply}
+use Rattle.sampler_player.specs.Pieces.{Going}
+use Rattle.sampler_processor.specs.declared.Leg.{Leg}
 use Rattle.sampler_processor.specs.declared.block.Stand.{Stand}
 use Rattle.sampler_processor.specs.declared.block.BlockEnd.{BlockEnd}
 use Rattle.sampler_processor.specs.Block.{Running, Ended}
+use Rattle.sampler_processor.specs.Calls.{Rendered}
 
 abbrev pub running : Stand → List Float → Running
 running a out = record { player = a .player; out = out; done = a .done; now = a .now .bits; pieces = a .pieces }
+
+-- a leg whose block was one segment, and left the queue as it was
+abbrev pub renderedOn : Leg → Going → Rendered
+renderedOn l g = record { answer = record { number = 0; leg = record { setup = l .setup; player = g .player; queue = l .queue }; pieces = g .pieces }; out = g .out }
 
 -- an event applied where the block stands
 abbrev pub appliedTo : ℕ → Event → Stand → Stand

@@ -16,7 +16,7 @@ ghost use mir.Val.{SFits};
 ghost use Rattle.timestamp.specs.Time.{timeOf, later};
 ghost use Rattle.sampler_event.specs.Rules.{within};
 ghost use Rattle.sampler_event.specs.Limits.{positionsBad};
-ghost use Rattle.event_processor.specs.Queue.{pending};
+ghost use Rattle.event_processor.specs.Queue.{pending, firstBefore, isDue};
 ghost use Rattle.sampler_player.specs.Sound.{kept};
 ghost use Rattle.sampler_processor.specs.Numbers.{queueGood};
 ghost use Rattle.sampler_processor.specs.Block.{frameOf, upTo};
@@ -47,6 +47,19 @@ fn frames_later(t: Timestamp, n: usize, rate: usize) -> Timestamp
     let by = timestamp::time_of(n, rate);
     let moved = t.add(by);
     moved.time
+}
+
+// Whether an event is due in the block. Its end is worked out only where one waits.
+pub fn any_due(queue: Queue, start: Timestamp, block: usize, rate: usize) -> bool
+    requires { ⌜ 8000 ≤ rate ⌝ ∗ ⌜ rate ≤ 96000 ⌝ ∗ ⌜ block ≤ 4096 ⌝ ∗ ⌜ T (within (pos 0) (pos (2 ^ 49)) (start .bits)) ⌝ }
+    ensures { λ r. ⌜ r ≡ isDue (firstBefore (start .bits +ℤ timeOf rate block) (pending queue)) ⌝ }
+{
+    let n = queue.count;
+    if n == 0 {
+        return false;
+    }
+    let end = frames_later(start, block, rate);
+    queue.is_due(end)
 }
 
 // The frame of an event: the floor of S, from the block's start to the later of its time and now.

@@ -4,9 +4,18 @@ use sampler_player::Player;
 use sampler_player::Setup;
 use timestamp::Timestamp;
 ghost use mathlib.Core.Path.{_≡_};
-ghost use Rattle.sampler_processor.specs.Numbers.{sound};
-ghost use Rattle.sampler_processor.specs.Calls.{fresh, make, submit, render};
-ghost use Rattle.sampler_player.specs.Lending.{lending};
+ghost use mathlib.Core.Bool.{true};
+ghost use Prim.Native.Nat.{_<_, _^_};
+ghost use lib.Dec.{T};
+ghost use lib.IntN.{pos};
+ghost use Rattle.sampler_event.specs.Rules.{within};
+ghost use Rattle.sampler_player.specs.Clock.{clockAt};
+ghost use Rattle.sampler_player.specs.Pieces.{segment};
+ghost use Rattle.sampler_player.specs.Sound.{kept};
+ghost use Rattle.sampler_player.specs.Lending.{Ready, lending, starting};
+ghost use Rattle.sampler_processor.specs.Numbers.{queueGood, sound};
+ghost use Rattle.sampler_processor.specs.Calls.{fresh, make, submit, renderedBy, render};
+ghost use Rattle.sampler_processor.specs.Stands.{renderedOn};
 
 mod block;
 mod numbers;
@@ -82,8 +91,15 @@ impl Leg {
             return false;
         }
         let player = self.player;
+        if !sound::player_good(player, setup) {
+            return false;
+        }
+        // An empty queue is sound, and need not be copied.
+        if self.queue.count == 0 {
+            return true;
+        }
         let queue = self.queue;
-        sound::player_good(player, setup) & sound::queue_good(queue, setup)
+        sound::queue_good(queue, setup)
     }
 
     // A command record's event in the queue, or 14, 13, 10, 11, 12, 9 in this order and the leg as it was.
@@ -131,7 +147,8 @@ impl Leg {
     ) -> RenderAnswer
         ensures { λ r. ⌜ record { answer = r; out = now (out .exit) } ≡ render self (lending (now (rec .entry)) (now (table .entry)) channels block) (now (out .entry)) (start .bits) ⌝ }
     {
-        let number = numbers::render_number(self, rec, table, channels, block, out, start);
+        let whole = self.sound();
+        let number = numbers::render_number(whole, self, rec, table, channels, block, out, start);
         if (number != 0) | (block == 0) {
             return RenderAnswer {
                 number,
@@ -139,6 +156,28 @@ impl Leg {
                 pieces: 0,
             };
         }
+        let queue = self.queue;
+        if block::any_due(queue, start, block, self.setup.rate) {
+            return self.render_events(rec, table, channels, block, out, start);
+        }
+        self.render_on(rec, table, channels, block, out)
+    }
+
+    // A block that is not refused, with the events that are due in it.
+    fn render_events(
+        self,
+        rec: &[f32],
+        table: &[f32],
+        channels: usize,
+        block: usize,
+        out: &mut [f32],
+        start: Timestamp,
+    ) -> RenderAnswer
+        requires { ⌜ Ready (self .setup) (lending (now rec) (now table) channels block) (now out) ⌝ }
+        requires { ⌜ 0 < block ⌝ ∗ ⌜ T (within (pos 0) (pos (2 ^ 48)) (start .bits)) ⌝ }
+        requires { ⌜ kept (self .setup) block (self .player) ≡ true ⌝ ∗ ⌜ queueGood (self .setup) (self .queue) ≡ true ⌝ }
+        ensures { λ r. ⌜ record { answer = r; out = now (out .exit) } ≡ renderedBy 0 self (lending (now (rec .entry)) (now (table .entry)) channels block) (now (out .entry)) (start .bits) ⌝ }
+    {
         let setup = self.setup;
         let player = self.player;
         let queue = self.queue;
@@ -161,9 +200,38 @@ impl Leg {
             queue,
         };
         RenderAnswer {
-            number,
+            number: 0,
             leg,
             pieces: end.pieces,
+        }
+    }
+
+    // A block that is not refused and in which no event is due: one segment, and the queue as it was.
+    fn render_on(
+        self,
+        rec: &[f32],
+        table: &[f32],
+        channels: usize,
+        block: usize,
+        out: &mut [f32],
+    ) -> RenderAnswer
+        requires { ⌜ Ready (self .setup) (lending (now rec) (now table) channels block) (now out) ⌝ ∗ ⌜ kept (self .setup) block (self .player) ≡ true ⌝ }
+        ensures { λ r. ⌜ record { answer = r; out = now (out .exit) } ≡ renderedOn self (segment (clockAt (self .setup .rate)) (self .setup) (lending (now (rec .entry)) (now (table .entry)) channels block) (starting (self .player) (now (out .entry)) 0 block)) ⌝ }
+    {
+        let setup = self.setup;
+        let player = self.player;
+        let played = player.play_segment(setup, out, block, 0, block, rec, table, channels);
+        let player = played.player;
+        let queue = self.queue;
+        let leg = Leg {
+            setup,
+            player,
+            queue,
+        };
+        RenderAnswer {
+            number: 0,
+            leg,
+            pieces: played.pieces,
         }
     }
 }

@@ -13,7 +13,7 @@ ghost use lib.Dec.{ltb};
 ghost use Rattle.sampler_event.specs.Rules.{firstBroken};
 ghost use Rattle.sampler_voice.specs.Voices.{isStopped};
 ghost use Rattle.sampler_player.specs.Sound.{anyFar, farBad};
-ghost use Rattle.sampler_processor.specs.Numbers.{rateBad, channelsBad, recordingLong, recordingBad, fadeLong, tableBad, blockBad, entryBad, outputBad, startBad, sizesBad, makeOrder, renderOrder};
+ghost use Rattle.sampler_processor.specs.Numbers.{rateBad, channelsBad, recordingLong, recordingBad, fadeLong, tableBad, blockBad, entryBad, outputBad, startBad, sizesBad, sound, makeOrder, renderOrder};
 ghost use Rattle.sampler_player.specs.Lending.{lending};
 
 // ---- the sizes that a leg keeps: 1, 2, 3, 4
@@ -154,8 +154,10 @@ fn far_bad(p: Player) -> bool
     last.is_before(position) | any_far(voices)
 }
 
-// "Render: 14, 4, 3, 2, 5, 7, 8, 6"; 0 for no refusal.
+// "Render: 14, 4, 3, 2, 5, 7, 8, 6"; 0 for no refusal. Whether the leg is sound is asked before, where the leg
+// stands, so that it is not copied to be asked.
 pub fn render_number(
+    whole: bool,
     leg: Leg,
     rec: &[f32],
     table: &[f32],
@@ -164,11 +166,12 @@ pub fn render_number(
     out: &[f32],
     start: Timestamp,
 ) -> u8
+    requires { ⌜ whole ≡ sound leg ⌝ }
     ensures { λ r. ⌜ r ≡ firstBroken (renderOrder leg (lending (now (rec .entry)) (now (table .entry)) channels block) (now (out .entry)) (start .bits)) ⌝ }
 {
     let setup = leg.setup;
     let player = leg.player;
-    if !leg.sound() {
+    if !whole {
         return 14;
     }
     if table_bad(setup, table) {

@@ -12,7 +12,8 @@ ghost use mathlib.Core.Bool.{_&&_};
 ghost use Prim.Native.Nat.{_≤_, _^_, max};
 ghost use lib.Dec.{leb};
 ghost use lib.Signed.{leZ};
-ghost use Rattle.sampler_player.specs.Sound.{isHeld, activeGood, fadeGood, voicesGood, pointsGood, loopGood, playerGood};
+ghost use Rattle.sampler_voice.specs.Voices.{isHeld, fadeGood};
+ghost use Rattle.sampler_player.specs.Sound.{activeGood, voicesGood, pointsGood, loopGood, playerGood};
 ghost use Rattle.sampler_processor.specs.Numbers.{queueGood};
 
 // ---- the voices

@@ -2,8 +2,8 @@
 -- The idea: cut the piece where a fade ends; each part stays in one phase. Assumes nothing.
 use Prim.Native.Nat.{ℕ, zero, suc, _+_, _-_, _<_, _≤_}
 use mathlib.Core.Path.{_≡_, refl, sym, _∙_, ap}
-use mathlib.Core.Bool.{Bool}
-use mathlib.Core.List.{List}
+use mathlib.Core.Bool.{Bool, true, false≢true}
+use mathlib.Core.List.{List, [], _∷_}
 use native.Mathlib.Omega.{arith}
 use native.Mathlib.Nat.{add-sub-of-le}
 use lib.ListN.{length}
@@ -12,9 +12,15 @@ use borrow.Author.Tests.{lt-ltb, le-ltb}
 use Rattle.sampler_voice.specs.declared.Voice.{Voice}
 use Rattle.sampler_voice.specs.declared.Phase.{Phase}
 use Rattle.sampler_voice.specs.declared.Phase.the-variants.{Stopped, FadingIn, Playing, FadingOut}
-use Rattle.sampler_voice.specs.Voices.{settled, nextPhase, lent, heard, sounded, frame, frames}
+use Rattle.sampler_voice.specs.Voices.{isStopped, settled, nextPhase, Heard, lent, heard, Mixed, lentAll, sounded, frame, frames, mix}
 use Rattle.sampler_voice.specs.Run.{later, run}
 use Rattle.sampler_voice.proofs.Chunk.{movedBy, chunk, frames-add}
+
+is-stopped : (ph : Phase) → isStopped ph ≡ true → ph ≡ Stopped
+is-stopped Stopped e = refl
+is-stopped (FadingIn i) e = absurd (false≢true e)
+is-stopped Playing e = absurd (false≢true e)
+is-stopped (FadingOut i) e = absurd (false≢true e)
 
 module _ (rec : List Float) (rn : ℕ) (fade : List Float) (n : ℕ) (two : Bool) where
   -- a fade that is over when frames begin counts as what follows it
@@ -90,3 +96,16 @@ module _ (rec : List Float) (rn : ℕ) (fade : List Float) (n : ℕ) (two : Bool
 
   pub stays : (v : Voice) (j k : ℕ) (out : List Float) → v .phase ≡ Stopped → lent v out ≡ frames rec rn fade n two j k (lent v out)
   stays v j k out e = ap (λ (x : Phase). heard (v .position) x out) e ∙ sym (stopped (v .position) j k out) ∙ sym (known v Stopped j k out e)
+
+  -- two Stopped voices
+  still : (v : Voice) (vs : List Voice) (j k : ℕ) (out : List Float) → v .phase ≡ Stopped
+      → mix rec rn fade n two j k (v ∷ vs) out ≡ lentAll (v ∷ mix rec rn fade n two j k vs out .voices) (mix rec rn fade n two j k vs out .out)
+  unfolding mix
+  still v vs j k out e =
+      ap (λ (h : Heard). lentAll (h .voice ∷ mix rec rn fade n two j k vs (h .out) .voices) (mix rec rn fade n two j k vs (h .out) .out)) (sym (stays v j k out e))
+
+  pub both-stay : (v w : Voice) (j k : ℕ) (out : List Float) → isStopped (v .phase) ≡ true → isStopped (w .phase) ≡ true
+      → lentAll (v ∷ w ∷ []) out ≡ mix rec rn fade n two j k (v ∷ w ∷ []) out
+  unfolding mix
+  both-stay v w j k out a b =
+      sym (still v (w ∷ []) j k out (is-stopped (v .phase) a) ∙ ap (λ (m : Mixed). lentAll (v ∷ m .voices) (m .out)) (still w [] j k out (is-stopped (w .phase) b)))

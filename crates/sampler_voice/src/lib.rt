@@ -146,7 +146,8 @@ pub struct Voices {
 }
 
 impl Voices {
-    // Voice 0 over the whole piece, and then voice 1: the same sums in the same order as frame by frame.
+    // Voice 0 over the whole piece, and then voice 1: the same sums in the same order as frame by frame. Where
+    // neither sounds, nothing is copied.
     pub fn render(
         self,
         out: &mut [f32],
@@ -166,6 +167,9 @@ impl Voices {
     {
         let v = self.voices[0];
         let w = self.voices[1];
+        if v.is_stopped() & w.is_stopped() {
+            return self;
+        }
         let a = v.render(out, n, j, k, rec, rn, fade, two);
         let b = w.render(out, n, j, k, rec, rn, fade, two);
         let voices = [a, b];

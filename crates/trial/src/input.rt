@@ -1,6 +1,5 @@
 // Standard input through a buffer, and the numbers in it. A caller asks `filled` for as many bytes as it is
 // about to read; a byte past the buffer would read as 0.
-use crate::words;
 use timestamp::Timestamp;
 ghost use Prim.Native.Nat.{_<_};
 
@@ -107,7 +106,7 @@ pub fn number(buffer: &[u8; 65536], at: usize, n: usize) -> u64 {
 }
 
 pub fn time(buffer: &[u8; 65536], at: usize) -> Timestamp {
-    Timestamp::from_raw_i64(words::signed(number(buffer, at, 8)))
+    Timestamp::from_raw_i64(sampler_event::as_i64(number(buffer, at, 8)))
 }
 
 pub fn count(buffer: &[u8; 65536], at: usize, n: usize) -> usize {

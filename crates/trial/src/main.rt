@@ -5,7 +5,6 @@ mod leg_bytes;
 mod output;
 mod run;
 mod steps;
-mod words;
 
 use input::Input;
 use libc::STDERR_FILENO;

@@ -1,5 +1,4 @@
 // Standard output through a buffer. Once a write fails nothing more is written.
-use crate::words;
 use libc::STDOUT_FILENO;
 
 // The bytes that the buffer holds, and whether every write so far was taken.
@@ -23,34 +22,13 @@ pub fn flushed(buffer: &[u8; 65536], output: Output) -> Output {
     Output { held: 0, open }
 }
 
-fn set(buffer: &mut [u8; 65536], at: usize, byte: u8) {
-    if at < 65536 {
-        buffer[at] = byte;
-    }
-}
-
-// The number's lowest n bytes, the lowest first.
-fn store(buffer: &mut [u8; 65536], at: usize, n: usize, number: u64) {
-    let mut left = number;
-    let mut i: usize = 0;
-    while i < n {
-        set(
-            buffer,
-            std::num::wrapping_add_usize(at, i),
-            (left % 256) as u8,
-        );
-        left = left / 256;
-        i += 1;
-    }
-}
-
 // A number of n bytes, at most 8.
 pub fn put(buffer: &mut [u8; 65536], output: Output, n: usize, number: u64) -> Output {
     let mut to = output;
     if 65528 < to.held {
         to = flushed(buffer, to);
     }
-    store(buffer, to.held, n, number);
+    words::put(buffer, to.held, n, number);
     Output {
         held: std::num::wrapping_add_usize(to.held, n),
         open: to.open,

@@ -1,5 +1,4 @@
 // Each op's call of the port. The op numbers are the oracle's.
-use crate::row;
 use crate::row::Row;
 use sample_location::LocationAnswer;
 use sample_location::RangeAnswer;
@@ -16,21 +15,21 @@ pub struct Reply {
 }
 
 fn time(bits: u64) -> Timestamp {
-    Timestamp::from_raw_i64(row::signed(bits))
+    Timestamp::from_raw_i64(sampler_event::as_i64(bits))
 }
 
 fn timed(a: TimeAnswer) -> Reply {
     let t = a.time;
     Reply {
         number: a.number as u64,
-        result: row::signed_bits(t.as_raw_i64()),
+        result: words::signed_bits(t.as_raw_i64()),
     }
 }
 
 fn floated(a: FloatAnswer) -> Reply {
     Reply {
         number: a.number as u64,
-        result: row::float_bits(a.value),
+        result: words::double_bits(a.value),
     }
 }
 
@@ -57,12 +56,12 @@ fn unknown() -> Reply {
 fn made(r: Row) -> Reply {
     let op = r.op;
     match op {
-        1 => timed(Timestamp::from_seconds(row::float(r.a))),
-        2 => timed(Timestamp::from_samples(row::float(r.a), r.b as usize)),
-        3 => timed(Timestamp::from_beats(row::float(r.a), row::float(r.b))),
-        4 => plain(row::float_bits(time(r.a).as_seconds())),
+        1 => timed(Timestamp::from_seconds(words::double(r.a))),
+        2 => timed(Timestamp::from_samples(words::double(r.a), r.b as usize)),
+        3 => timed(Timestamp::from_beats(words::double(r.a), words::double(r.b))),
+        4 => plain(words::double_bits(time(r.a).as_seconds())),
         5 => floated(time(r.a).as_samples(r.b as usize)),
-        6 => floated(time(r.a).as_beats(row::float(r.b))),
+        6 => floated(time(r.a).as_beats(words::double(r.b))),
         _ => moved(r),
     }
 }
@@ -71,8 +70,8 @@ fn moved(r: Row) -> Reply {
     let op = r.op;
     match op {
         7 => timed(time(r.a).incremented_by_samples(r.b as usize, r.c as usize)),
-        8 => timed(time(r.a).incremented_by_seconds(row::float(r.b))),
-        9 => timed(time(r.a).incremented_by_beats(row::float(r.b), row::float(r.c))),
+        8 => timed(time(r.a).incremented_by_seconds(words::double(r.b))),
+        9 => timed(time(r.a).incremented_by_beats(words::double(r.b), words::double(r.c))),
         10 => timed(time(r.a).add(time(r.b))),
         11 => timed(time(r.a).sub(time(r.b))),
         12 => plain(order_number(time(r.a).cmp(time(r.b)))),
@@ -97,7 +96,7 @@ fn framed(r: Row) -> Reply {
         15 => {
             if frames <= 1099511627776 {
                 let t = timestamp::time_of(frames as usize, rate as usize);
-                return plain(row::signed_bits(t.as_raw_i64()));
+                return plain(words::signed_bits(t.as_raw_i64()));
             }
             unknown()
         }

@@ -1,6 +1,5 @@
 // The ops of the command queue. Its state goes from row to row: a row 30 starts it anew, a row 31 is
 // a command, a row 32 takes the first event before an end.
-use crate::row;
 use crate::row::Row;
 use event_processor::First;
 use event_processor::Queue;
@@ -8,7 +7,7 @@ use sampler_event::Event;
 use sampler_event::EventAnswer;
 use sampler_event::Kind;
 use timestamp::Timestamp;
-ghost use Prim.Native.Nat.{_+_, _≤_};
+ghost use Prim.Native.Nat.{_≤_};
 
 pub struct State {
     pub rate: u64,
@@ -39,27 +38,14 @@ pub fn fresh(rate: u64, fade: u64) -> State {
 
 // ---- the command
 
-// The number's lowest n bytes, the lowest first, from `at` on.
-fn put(bytes: [u8; 64], at: usize, n: usize, number: u64) -> [u8; 64]
-    requires { ⌜ at + n ≤ 64 ⌝ }
-{
-    let mut out = bytes;
-    let mut left = number;
-    let mut i: usize = 0;
-    while i < n {
-        out[at + i] = (left % 256) as u8;
-        left = left / 256;
-        i += 1;
-    }
-    out
-}
-
 // The record's 26 bytes, and zeros.
 fn record(r: Row) -> [u8; 64] {
-    let kind = put([0u8; 64], 0, 2, r.result);
-    let time = put(kind, 2, 8, r.a);
-    let first = put(time, 10, 8, r.b);
-    put(first, 18, 8, r.c)
+    let mut bytes = [0u8; 64];
+    words::put(&mut bytes, 0, 2, r.result);
+    words::put(&mut bytes, 2, 8, r.a);
+    words::put(&mut bytes, 10, 8, r.b);
+    words::put(&mut bytes, 18, 8, r.c);
+    bytes
 }
 
 // The rows keep to records of at most 64 bytes.
@@ -98,7 +84,7 @@ fn commanded(state: State, r: Row) -> Judged {
 // ---- the first event before an end
 
 fn is_bits(t: Timestamp, bits: u64) -> bool {
-    row::signed_bits(t.as_raw_i64()) == bits
+    words::signed_bits(t.as_raw_i64()) == bits
 }
 
 fn no_points(r: Row) -> bool {
@@ -131,7 +117,7 @@ fn is_first(first: First, r: Row) -> bool {
 
 fn taken(state: State, r: Row) -> Judged {
     let queue = state.queue;
-    let got = queue.next_event_before(Timestamp::from_raw_i64(row::signed(r.a)));
+    let got = queue.next_event_before(Timestamp::from_raw_i64(sampler_event::as_i64(r.a)));
     let first = got.first;
     let next = got.queue;
     held(is_first(first, r), state, next)

@@ -1,5 +1,4 @@
 // A piece of the list: its buffers, its voice and what became of them.
-use crate::row;
 use crate::row::Row;
 use sampler_voice::Phase;
 use sampler_voice::Voice;
@@ -17,13 +16,13 @@ fn put(entries: &mut [f32], i: usize, x: f32) {
 // The row's floats, to the entries from its place on.
 pub fn set(entries: &mut [f32], r: Row) {
     let at = r.at;
-    let words = r.words;
+    let bits = r.words;
     let mut i = 0;
     while i < 8 {
         put(
             entries,
             std::num::wrapping_add_usize(at, i),
-            row::float(words[i]),
+            words::float(bits[i]),
         );
         i += 1;
     }
@@ -31,7 +30,7 @@ pub fn set(entries: &mut [f32], r: Row) {
 
 fn is_at(entries: &[f32], i: usize, bits: u32) -> bool {
     if i < entries.len() {
-        row::is_float(entries[i], bits)
+        words::float_bits(entries[i]) == bits
     } else {
         false
     }
@@ -40,11 +39,11 @@ fn is_at(entries: &[f32], i: usize, bits: u32) -> bool {
 // Whether the entries from the row's place on are its floats.
 pub fn holds(entries: &[f32], r: Row) -> bool {
     let at = r.at;
-    let words = r.words;
+    let bits = r.words;
     let mut i = 0;
     let mut same = true;
     while i < 8 {
-        same = same & is_at(entries, std::num::wrapping_add_usize(at, i), words[i]);
+        same = same & is_at(entries, std::num::wrapping_add_usize(at, i), bits[i]);
         i += 1;
     }
     same

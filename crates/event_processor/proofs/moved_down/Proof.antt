@@ -1,7 +1,7 @@
 -- `event_processor::moved_down` meets its contract: the array without its first, a blank at the end.
 -- The idea: `down` is the array at each turn, and the last store puts the blank where the turns end. Assumes nothing.
 use Prim.Native.Nat.{_-_, _≤_}
-use mathlib.Core.Path.{_≡_, refl}
+use mathlib.Core.Path.{_≡_}
 use native.Mathlib.Omega.{arith}
 use borrow.Author.Needs.{needs}
 use lib.ListN.{length}
@@ -11,16 +11,19 @@ use Rattle.event_processor.proofs.moved_down.Statement.{statement}
 use Rattle.event_processor.proofs.moved_down.Tie as tie
 
 abbrev Inv-loop : tie.InvT-loop
-Inv-loop events out₀ i₀ out i = (i ≤ 15) × (out ≡ down events i)
+Inv-loop n events out₀ i₀ out i = (i ≤ 15) × (out ≡ down events i)
 
 abbrev μ-loop : tie.MeasureT-loop
-μ-loop events out₀ i₀ out i = 15 - i
+μ-loop n events out₀ i₀ out i = 15 - i
 
 sixteen : (s : tie.Start Inv-loop μ-loop) → length (s .args .t1) ≡ 16
 sixteen s = s .good .0 .1 .0 .1
 
+lowered-requires : tie.Need-lowered-requires Inv-loop μ-loop
+lowered-requires c κs = search needs
+
 loop-holds : tie.Need-loop-holds Inv-loop μ-loop
-loop-holds c = (search needs, refl)
+loop-holds c = (search needs, c .lowered .ensures)
 
 add-out : tie.Need-add-out Inv-loop μ-loop
 add-out c = search needs
@@ -45,7 +48,7 @@ loop-less c = search needs
 
 loop-again : tie.Need-loop-again Inv-loop μ-loop
 loop-again c =
-    let s = c .before .before .before in
+    let s = c .before .before .before .before in
     let l = sixteen s in
     let v = c .before .before .loop in
     (search needs, rw (v .inv .1) (down-step (s .args .t1) (v .i) _ (omega arith)))
@@ -58,7 +61,7 @@ array-set-from-out-2 c = search needs
 
 returns : tie.Need-returns Inv-loop μ-loop
 returns c =
-    let s = c .before .before .before in
+    let s = c .before .before .before .before in
     let l = sixteen s in
     let v = c .before .before .loop in
     let q : v .i ≡ 15 = omega arith in
@@ -70,6 +73,7 @@ moved-down-spec =
     (tie.spec
     Inv-loop
     μ-loop
+    lowered-requires
     loop-holds
     add-out
     mul-out

@@ -25,6 +25,12 @@ element-copy-out-event c = search needs
 is-before-requires : tie.Need-is-before-requires
 is-before-requires c κs = search needs
 
+sub-split-at : tie.Need-sub-split-at
+sub-split-at c = search needs
+
+split-at-requires : tie.Need-split-at-requires
+split-at-requires c κs = search needs
+
 moved-down-requires : tie.Need-moved-down-requires
 moved-down-requires c κs = search needs
 
@@ -33,11 +39,11 @@ sub-t17 c = search needs
 
 returns-2 : tie.Need-returns-2
 returns-2 c =
-    let s = c .before .before .before .before .before .before .before in
+    let s = c .before .before .before .before .before .before .before .before in
     let q = s .args .t1 in
     let end = s .args .end .bits in
     let l = sixteen s in
-    let t : ltZ (getD (q .events) 0 blankEvent .time .bits) end ≡ true = sym (c .before .before .before .is-before .ensures) ∙ c .before .before .if2 .taken in
+    let t : ltZ (getD (q .events) 0 blankEvent .time .bits) end ≡ true = sym (c .before .before .before .before .is-before .ensures) ∙ c .before .before .before .if2 .taken in
     rw (c .moved-down .ensures) (sym (taken-due end q _ (first-at end (q .events) (q .count) blankEvent (omega arith) (omega arith) ∙ rw t refl)))
 
 returns-3 : tie.Need-returns-3
@@ -56,6 +62,8 @@ next-event-before-spec =
     returns
     element-copy-out-event
     is-before-requires
+    sub-split-at
+    split-at-requires
     moved-down-requires
     sub-t17
     returns-2
