@@ -1,5 +1,6 @@
 // Step 4's blocks: each over zeros, each T(frames) after the one before.
 use sampler_processor::Leg;
+use sampler_processor::RenderAnswer;
 use timestamp::Timestamp;
 ghost use Prim.Native.Nat.{_≤_, _<_, _^_};
 ghost use lib.ListN.{length};
@@ -36,20 +37,21 @@ fn bits(x: f32) -> u32
     f32::to_bits(x)
 }
 
-// The sum of the entries' bits; none is a NaN. Their halves are summed apart, in 32 bits, so that the loop keeps to
-// words of one width.
+// The sum of the entries' bits; none is a NaN. In words of one width: the sum mod 2^32, and that of the upper halves,
+// which together tell the sum of the lower ones.
 fn bits_sum(entries: &[f32]) -> u64
     requires { ⌜ length (now entries) ≤ 65536 ⌝ ∗ ⌜ Numbers (now entries) ⌝ }
 {
-    let mut low: u32 = 0;
+    let mut all: u32 = 0;
     let mut high: u32 = 0;
     let mut i: usize = 0;
     while i < entries.len() {
         let word = bits(entries[i]);
-        low += word % 65536;
+        all = std::num::wrapping_add_u32(all, word);
         high += word / 65536;
         i += 1;
     }
+    let low = std::num::wrapping_sub_u32(all, high % 65536 * 65536);
     wide(low) + 65536 * wide(high)
 }
 
@@ -66,30 +68,11 @@ fn later(start: Timestamp, by: Timestamp) -> Timestamp {
     sum.time
 }
 
-// One block more, unless it is refused.
-fn another(
-    done: Blocks,
-    rec: &[f32],
-    table: &[f32],
-    channels: usize,
-    block: usize,
-    entries: &mut [f32],
-    start: Timestamp,
-) -> Blocks
-    requires { ⌜ length (now entries) ≤ 65536 ⌝ }
+// The blocks that are to come: none after a refusal.
+fn to_come(left: u64, number: u8) -> u64
+    ensures { λ r. ⌜ r ≤ left ⌝ }
 {
-    clear(entries);
-    let leg = done.leg;
-    let answer = leg.render(rec, table, channels, block, entries, start);
-    let next = answer.leg;
-    let rendered = answer.number == 0;
-    Blocks {
-        number: answer.number,
-        blocks: std::num::wrapping_add_u64(done.blocks, rendered as u64),
-        pieces: std::num::wrapping_add_u64(done.pieces, answer.pieces as u64),
-        sum: std::num::wrapping_add_u64(done.sum, bits_sum(entries)),
-        leg: next,
-    }
+    if number == 0 { left } else { 0 }
 }
 
 pub fn run(
@@ -105,22 +88,33 @@ pub fn run(
     requires { ⌜ length (now entries) ≤ 65536 ⌝ }
 {
     let by = block_time(leg, block);
-    let mut done = Blocks {
+    let mut last = RenderAnswer {
         number: 0,
-        blocks: 0,
-        pieces: 0,
-        sum: 0,
         leg,
+        pieces: 0,
     };
     let mut at = start;
+    let mut blocks: u64 = 0;
+    let mut pieces: u64 = 0;
+    let mut sum: u64 = 0;
     let mut left = count;
     while 0 < left {
-        left -= 1;
-        done = another(done, rec, table, channels, block, entries, at);
-        if done.number != 0 {
-            break;
-        }
+        clear(entries);
+        let current = last.leg;
+        last = current.render(rec, table, channels, block, entries, at);
+        // a block that is refused leaves zeros, and has no pieces
+        sum = std::num::wrapping_add_u64(sum, bits_sum(entries));
+        blocks = std::num::wrapping_add_u64(blocks, (last.number == 0) as u64);
+        pieces = std::num::wrapping_add_u64(pieces, last.pieces as u64);
         at = later(at, by);
+        left = to_come(left - 1, last.number);
     }
-    done
+    let leg = last.leg;
+    Blocks {
+        number: last.number,
+        blocks,
+        pieces,
+        sum,
+        leg,
+    }
 }

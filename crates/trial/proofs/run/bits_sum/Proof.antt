@@ -1,17 +1,17 @@
 -- `trial::run::bits_sum` is safe and ends.
--- The idea: after i entries each half is at most 65,535 times i, and there are few enough for 32 bits. Assumes nothing.
+-- The idea: after i entries the upper halves sum to at most 65,535 times i, and there are few enough for 32 bits. Assumes nothing.
 use Prim.Native.Nat.{_-_, _*_, _≤_}
-use lib.ListN.{length}
 use native.Mathlib.Omega.{arith}
+use lib.ListN.{length}
 use borrow.Author.Needs.{needs}
 use Rattle.trial.proofs.run.bits_sum.Statement.{statement}
 use Rattle.trial.proofs.run.bits_sum.Tie as tie
 
 abbrev Inv-loop : tie.InvT-loop
-Inv-loop entries low₀ high₀ i₀ low high i = (i ≤ length entries) × (low ≤ 65535 * i) × (high ≤ 65535 * i)
+Inv-loop entries all₀ high₀ i₀ all high i = (i ≤ length entries) × (high ≤ 65535 * i)
 
 abbrev μ-loop : tie.MeasureT-loop
-μ-loop entries low₀ high₀ i₀ low high i = length entries - i
+μ-loop entries all₀ high₀ i₀ all high i = length entries - i
 
 loop-holds : tie.Need-loop-holds Inv-loop μ-loop
 loop-holds c = search needs
@@ -25,8 +25,8 @@ shared-slice-read-bits c = search needs
 bits-requires : tie.Need-bits-requires Inv-loop μ-loop
 bits-requires c κs = c .before .before .before .before .pre .1 (c .before .before .loop .i) (omega arith)
 
-add-low : tie.Need-add-low Inv-loop μ-loop
-add-low c = search needs
+wrapping-add-u32-requires : tie.Need-wrapping-add-u32-requires Inv-loop μ-loop
+wrapping-add-u32-requires c κs = search needs
 
 add-high : tie.Need-add-high Inv-loop μ-loop
 add-high c = search needs
@@ -39,6 +39,12 @@ loop-less c = search needs
 
 loop-again : tie.Need-loop-again Inv-loop μ-loop
 loop-again c = search needs
+
+mul-wrapping-sub-u32 : tie.Need-mul-wrapping-sub-u32 Inv-loop μ-loop
+mul-wrapping-sub-u32 c = search needs
+
+wrapping-sub-u32-requires : tie.Need-wrapping-sub-u32-requires Inv-loop μ-loop
+wrapping-sub-u32-requires c κs = search needs
 
 wide-requires : tie.Need-wide-requires Inv-loop μ-loop
 wide-requires c κs = search needs
@@ -65,11 +71,13 @@ bits-sum-spec =
     mul-bits
     shared-slice-read-bits
     bits-requires
-    add-low
+    wrapping-add-u32-requires
     add-high
     add-i
     loop-less
     loop-again
+    mul-wrapping-sub-u32
+    wrapping-sub-u32-requires
     wide-requires
     wide-requires-2
     mul-result

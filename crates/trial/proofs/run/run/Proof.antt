@@ -1,16 +1,26 @@
--- `trial::run::run` is safe and ends.
--- The idea: the count of blocks falls, and a render leaves the length as it is. Assumes nothing.
-use mathlib.Core.Path.{_≡_}
+-- `trial::run::run` is safe and ends: the bits that it sums are of no NaN.
+-- The idea: the entries are zeros before each block, and no sample that a leg renders is a NaN (`render-numbers`). Assumes nothing.
+use mathlib.Core.Path.{_≡_, sym, ap, _∙_, subst}
+use Prim.Native.Nat.{ℕ, _-_, _≤_, _<_}
+use native.Mathlib.Omega.{arith}
 use lib.ListN.{length}
 use borrow.Author.Needs.{needs}
+use Rattle.sampler_voice.proofs.NoNan.{Numbers}
+use Rattle.sampler_processor.specs.Calls.{Rendered}
+use Rattle.sampler_processor.proofs.NoNan.{render-numbers}
 use Rattle.trial.proofs.run.run.Statement.{statement}
 use Rattle.trial.proofs.run.run.Tie as tie
 
+less : (n m : ℕ) → 0 < n → m ≤ n - 1 → m < n
+less n m h k = omega arith
+
 abbrev Inv-loop : tie.InvT-loop
-Inv-loop rec table channels block entries₀ count by done₀ at₀ left₀ entries done at left = length entries ≡ length entries₀
+Inv-loop rec table channels block entries₀ count by last₀ at₀ blocks₀ pieces₀ sum₀ left₀ entries last at blocks pieces sum left =
+    length entries ≡ length entries₀
 
 abbrev μ-loop : tie.MeasureT-loop
-μ-loop rec table channels block entries₀ count by done₀ at₀ left₀ entries done at left = left
+μ-loop rec table channels block entries₀ count by last₀ at₀ blocks₀ pieces₀ sum₀ left₀ entries last at blocks pieces sum left =
+    left
 
 block-time-requires : tie.Need-block-time-requires Inv-loop μ-loop
 block-time-requires c κs = search needs
@@ -18,32 +28,59 @@ block-time-requires c κs = search needs
 loop-holds : tie.Need-loop-holds Inv-loop μ-loop
 loop-holds c = search needs
 
-sub-left : tie.Need-sub-left Inv-loop μ-loop
-sub-left c = search needs
+clear-requires : tie.Need-clear-requires Inv-loop μ-loop
+clear-requires c κs = search needs
 
-another-requires : tie.Need-another-requires Inv-loop μ-loop
-another-requires c κs = search needs
+render-requires : tie.Need-render-requires Inv-loop μ-loop
+render-requires c κs = search needs
+
+bits-sum-requires : tie.Need-bits-sum-requires Inv-loop μ-loop
+bits-sum-requires c κs =
+    let r = c .before .before .before .render in
+    let z = c .before .before .before .before .before .before .before .before .clear in
+    let l = c .before .before .before .before .before .before .before .before .before .before .before .loop in
+    let few = c .before .before .before .before .before .before .before .before .before .before .before .before .before .before .before .before .pre in (
+      subst (λ (n : ℕ). n ≤ 65536) (sym (r .kept .1 .1 .1 .1 .1 .0 ∙ z .kept .0 ∙ l .inv)) few,
+      subst Numbers (sym (ap (λ (x : Rendered). x .out) (r .ensures))) (render-numbers _ _ _ _ (z .ensures)),
+    )
+
+wrapping-add-u64-requires : tie.Need-wrapping-add-u64-requires Inv-loop μ-loop
+wrapping-add-u64-requires c κs = search needs
+
+cast-wrapping-add-u64 : tie.Need-cast-wrapping-add-u64 Inv-loop μ-loop
+cast-wrapping-add-u64 c = search needs
+
+wrapping-add-u64-requires-2 : tie.Need-wrapping-add-u64-requires-2 Inv-loop μ-loop
+wrapping-add-u64-requires-2 c κs = search needs
+
+wrapping-add-u64-requires-3 : tie.Need-wrapping-add-u64-requires-3 Inv-loop μ-loop
+wrapping-add-u64-requires-3 c κs = search needs
 
 later-requires : tie.Need-later-requires Inv-loop μ-loop
 later-requires c κs = search needs
 
+sub-to-come : tie.Need-sub-to-come Inv-loop μ-loop
+sub-to-come c = c .before .before .before .before .before .before .before .before .before .before .before .before .before .before .before .before .loop-test .taken
+
+to-come-requires : tie.Need-to-come-requires Inv-loop μ-loop
+to-come-requires c κs = search needs
+
 loop-less : tie.Need-loop-less Inv-loop μ-loop
-loop-less c = search needs
+loop-less c =
+    let left = c .before .before .before .before .before .before .before .before .before .before .before .before .before .before .before .before .before .before .loop .left in
+    less left (c .to-come .result) (c .before .before .before .before .before .before .before .before .before .before .before .before .before .before .before .before .before .loop-test .taken) (c .to-come .ensures)
 
 loop-again : tie.Need-loop-again Inv-loop μ-loop
-loop-again c = search needs
+loop-again c =
+    let r = c .before .before .before .before .before .before .before .before .before .before .render in
+    let z = c .before .before .before .before .before .before .before .before .before .before .before .before .before .before .before .clear in
+    r .kept .1 .1 .1 .1 .1 .0 ∙ z .kept .0 ∙ c .before .before .before .before .before .before .before .before .before .before .before .before .before .before .before .before .before .before .loop .inv
 
 same-length : tie.Need-same-length Inv-loop μ-loop
-same-length c = search needs
+same-length c = c .before .before .loop .inv
 
 returns : tie.Need-returns Inv-loop μ-loop
 returns c = search needs
-
-same-length-2 : tie.Need-same-length-2 Inv-loop μ-loop
-same-length-2 c = search needs
-
-returns-2 : tie.Need-returns-2 Inv-loop μ-loop
-returns-2 c = search needs
 
 pub run-spec : {M : Type 1} → statement M
 run-spec =
@@ -53,12 +90,17 @@ run-spec =
     μ-loop
     block-time-requires
     loop-holds
-    sub-left
-    another-requires
+    clear-requires
+    render-requires
+    bits-sum-requires
+    wrapping-add-u64-requires
+    cast-wrapping-add-u64
+    wrapping-add-u64-requires-2
+    wrapping-add-u64-requires-3
     later-requires
+    sub-to-come
+    to-come-requires
     loop-less
     loop-again
     same-length
-    returns
-    same-length-2
-    returns-2)
+    returns)
