@@ -1,6 +1,9 @@
 //! Step 4 of the proved program `trial` against the same blocks by the Rust, in one run: what a block of 480 stereo frames
 //! costs either, after the blocks, pieces and sums of both are seen to be the same.
 
+mod noise;
+
+use noise::noise;
 use oracle::commands::{Record, ENABLE_LOOP, START, START_IMMEDIATE};
 use oracle::effects::sampler::{EventTransmitter, Fade, SamplerDspProcess};
 use oracle::effects::Channel;
@@ -197,15 +200,6 @@ impl Rust {
 
 // ---- both
 
-fn noise(entries: usize) -> Vec<f32> {
-    let mut state = 1_u64;
-    let mut sample = || {
-        state = state.wrapping_mul(6_364_136_223_846_793_005).wrapping_add(1_442_695_040_888_963_407);
-        (state >> 40) as f32 / (1 << 23) as f32 - 1.0
-    };
-    (0..entries).map(|_| sample()).collect()
-}
-
 fn blocks(visits: &[Visit]) -> f64 {
     visits.iter().map(|visit| f64::from(visit.blocks)).sum()
 }
@@ -238,7 +232,9 @@ fn main() -> io::Result<ExitCode> {
     let fade = Fade::new(Duration::from_millis(50), RATE);
     let table: Vec<f32> = (0..fade.len()).map(|position| fade.value(position)).collect();
 
-    println!("| {LEGS} legs, blocks of {BLOCK} stereo frames, ns a block | proved | Rust | Rust/proved | legs a core |");
+    println!(
+        "| {LEGS} legs, blocks of {BLOCK} stereo frames, ns a block | proved | Rust | Rust/proved | legs a core |"
+    );
     println!("|---|---|---|---|---|");
     for row in rows() {
         let (ours, theirs) = measure(&row, &recording, &table)?;

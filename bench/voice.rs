@@ -1,6 +1,9 @@
 //! One block of 480 stereo frames by the proved voice, by the Rust's `Voice::render` and by a plain C loop, in turn and in
 //! the same memory. Prints the best time of each, after it has seen that all make the same bits.
 
+mod noise;
+
+use noise::noise;
 use oracle::effects::sampler::{Fade, Voice, VoicePhase};
 use oracle::{AudioBuffer, OwnedAudioBuffer, SampleLocation};
 use std::hint::black_box;
@@ -147,15 +150,10 @@ struct Buffers {
 impl Buffers {
     fn new() -> Self {
         let fade = Fade::new(Duration::from_millis(50), RATE);
-        let mut state = 1_u64;
-        let mut sample = || {
-            state = state.wrapping_mul(6_364_136_223_846_793_005).wrapping_add(1_442_695_040_888_963_407);
-            (state >> 40) as f32 / (1 << 23) as f32 - 1.0
-        };
 
         Self {
             output: OwnedAudioBuffer::from_planar(vec![0.0; 2 * BLOCK], 2, RATE),
-            recording: OwnedAudioBuffer::from_planar((0..2 * RECORDED).map(|_| sample()).collect(), 2, RATE),
+            recording: OwnedAudioBuffer::from_planar(noise(2 * RECORDED), 2, RATE),
             table: (0..fade.len()).map(|position| fade.value(position)).collect(),
             fade,
         }

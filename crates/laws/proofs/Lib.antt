@@ -10,3 +10,7 @@ pub mod Operations
 pub mod Fit
 pub mod Whole
 pub mod Error
+-- Bounds, RangeTests: floats of bounded size. NoNan: sums that are no NaN.
+pub mod Bounds
+pub mod RangeTests
+pub mod NoNan

@@ -1,4 +1,5 @@
--- A value above zero rounded to the nearest whole number, a tie to the even one, by one sum with 2 ^ 52. Assumes nothing.
+-- A value above zero rounded to the nearest whole number, a tie to the even one, by one sum with 2 ^ 52.
+-- The idea: from 2 ^ 52 on the format has whole numbers only, so the sum's rounding is the one asked for. Assumes nothing.
 use mathlib.Core.Path.{_≡_, refl, sym, ap, _∙_, subst}
 use mathlib.Core.Bool.{Bool, true, false, cond, not, _&&_, true≢false}
 use mathlib.Core.Logic.{_⊎_, inl, inr}

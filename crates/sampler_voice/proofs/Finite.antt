@@ -18,7 +18,7 @@ use Rattle.sampler_voice.specs.Sound.{entry, channelsMixed, fetched, add
 use Rattle.sampler_voice.specs.Voices.{settled, faded, lent, sounded, frame, frames, mix}
 use Rattle.sampler_voice.proofs.Audible.{audible, sounded-as}
 use Rattle.sampler_voice.proofs.Untouched.{Beside, Outside, other-frame, sounded-beside, frames-untouched}
-use Rattle.sampler_voice.proofs.Bounds.{AtMost, most-more, add-most}
+use Rattle.laws.proofs.Bounds.{AtMost, most-more, add-most}
 use Rattle.sampler_voice.proofs.SmallPair.{Most, fetched-most, faded-most}
 
 -- ---- one sum, and one frame

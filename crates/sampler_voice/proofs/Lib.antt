@@ -12,9 +12,7 @@ pub mod Mix
 pub mod Phases
 pub mod Moves
 pub mod Untouched
--- Outputs stay finite. Bounds, RangeTests: floats of bounded size. SmallPair: a pair. Finite: a voice and a mix. Risen: the pieces of a call. NoNan: and no entry becomes a NaN.
-pub mod Bounds
-pub mod RangeTests
+-- Outputs stay finite. SmallPair: a pair. Finite: a voice and a mix. Risen: the pieces of a call. NoNan: and no entry becomes a NaN.
 pub mod SmallPair
 pub mod Finite
 pub mod Risen

@@ -14,7 +14,7 @@ use borrow.Author.Tests.{ltb-true, ltb-false}
 use Rattle.sampler_voice.specs.declared.Voice.{Voice}
 use Rattle.sampler_voice.specs.Voices.{mix}
 use Rattle.sampler_voice.proofs.Untouched.{Outside, mix-out-length, mix-untouched}
-use Rattle.sampler_voice.proofs.Bounds.{AtMost, most-more, most-finite}
+use Rattle.laws.proofs.Bounds.{AtMost, most-more, most-finite}
 use Rattle.sampler_voice.proofs.Finite.{mix-most}
 
 -- the first `done` frames have been mixed: every entry is at most C, and what isn't of these frames still at most B

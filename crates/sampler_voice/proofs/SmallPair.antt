@@ -14,8 +14,8 @@ use Rattle.sampler_voice.specs.declared.Phase.{Phase}
 use Rattle.sampler_voice.specs.declared.Phase.the-variants.{Stopped, FadingIn, Playing, FadingOut}
 use Rattle.sampler_voice.specs.Sound.{sixteen, cleaned, fetched, scaled}
 use Rattle.sampler_voice.specs.Voices.{faded}
-use Rattle.sampler_voice.proofs.Bounds.{AtMost, mul-most}
-use Rattle.sampler_voice.proofs.RangeTests.{tests-most, unit-most}
+use Rattle.laws.proofs.Bounds.{AtMost, mul-most}
+use Rattle.laws.proofs.RangeTests.{tests-most, unit-most}
 
 cleaned-most : (x : Float) → AtMost 16 (cleaned x)
 unfolding cleaned ofBits neg

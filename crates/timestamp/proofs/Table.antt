@@ -1,4 +1,5 @@
--- Frames m1 to m4 of document 01 as one statement, by computation. Assumes nothing.
+-- Frames m1 to m4 of document 01 as one statement.
+-- The idea: each row computes. Assumes nothing.
 use mathlib.Core.Path.{_≡_, refl}
 use mathlib.Core.List.{List, [], _∷_}
 use Prim.Native.Nat.{ℕ}

@@ -1,4 +1,5 @@
--- T of a whole number of frames: up to 8 seconds the quotient's rounding does no harm, so T is one rounding of the exact fraction. Assumes nothing.
+-- T of a whole number of frames, up to 8 seconds, is one rounding of the exact fraction.
+-- The idea: the quotient's own rounding is too small to do harm there. Assumes nothing.
 use mathlib.Core.Path.{_≡_, refl, sym, ap, ap₂, _∙_, subst}
 use mathlib.Core.Logic.{_⊎_, inl, inr}
 use Prim.Native.Nat.{ℕ, zero, suc, _+_, _-_, _*_, _^_, _≤_, _<_}

@@ -30,6 +30,11 @@ pub fn passed(input: Input, n: usize) -> Input {
     }
 }
 
+// The place so many bytes on.
+pub fn on(at: usize, n: usize) -> usize {
+    std::num::wrapping_add_usize(at, n)
+}
+
 // ---- the buffer
 
 fn move_byte(buffer: &mut [u8; 65536], from: usize, to: usize) {

@@ -1,6 +1,7 @@
 // A leg in its 490 bytes, written and read. What the leg's types can't hold is malformed; what they can, and
 // document 01 calls damaged, is read as it stands.
 use crate::input;
+use crate::input::on;
 use crate::output;
 use crate::output::Output;
 use event_processor::Queue;
@@ -126,11 +127,6 @@ pub fn put_leg(buffer: &mut [u8; 65536], to: Output, leg: Leg) -> Output {
 }
 
 // ---- reading, of bytes that the buffer holds
-
-// The place so many bytes on.
-fn on(at: usize, n: usize) -> usize {
-    std::num::wrapping_add_usize(at, n)
-}
 
 pub struct VoiceRead {
     pub good: bool,

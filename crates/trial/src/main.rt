@@ -7,6 +7,7 @@ mod run;
 mod steps;
 
 use input::Input;
+use input::on;
 use libc::STDERR_FILENO;
 use output::Output;
 use sampler_processor::Leg;
@@ -48,10 +49,6 @@ struct Head {
     a: usize,
     b: usize,
     steps: u64,
-}
-
-fn on(at: usize, n: usize) -> usize {
-    std::num::wrapping_add_usize(at, n)
 }
 
 fn head_at(source: &[u8; 65536], at: usize) -> Head {

@@ -4,7 +4,8 @@ use sampler_processor::RenderAnswer;
 use timestamp::Timestamp;
 ghost use Prim.Native.Nat.{_≤_, _<_, _^_};
 ghost use lib.ListN.{length};
-ghost use Rattle.sampler_voice.proofs.NoNan.{Number, Numbers};
+ghost use Rattle.laws.proofs.NoNan.{Number};
+ghost use Rattle.sampler_voice.proofs.NoNan.{Numbers};
 
 // The number of the last block; the blocks rendered, their pieces, and the sum of their entries' bits.
 pub struct Blocks {

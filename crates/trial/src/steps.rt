@@ -1,6 +1,7 @@
 // The four steps: each reads what follows its byte, tells the leg, and writes what it answered.
 use crate::input;
 use crate::input::Input;
+use crate::input::on;
 use crate::leg_bytes;
 use crate::output;
 use crate::output::Output;
@@ -48,7 +49,7 @@ fn record(source: &[u8; 65536], at: usize, n: usize) -> [u8; 64] {
     let mut i: usize = 0;
     while i < 64 {
         if i < n {
-            bytes[i] = input::byte_at(source, std::num::wrapping_add_usize(at, i));
+            bytes[i] = input::byte_at(source, on(at, i));
         }
         i += 1;
     }
@@ -72,7 +73,7 @@ fn command(
     if !input::holds(head, 3) {
         return malformed(head, output, leg);
     }
-    let n = input::count(source, std::num::wrapping_add_usize(head.at, 1), 2);
+    let n = input::count(source, on(head.at, 1), 2);
     if 64 < n {
         return malformed(head, output, leg);
     }
@@ -81,7 +82,7 @@ fn command(
     if !input::holds(whole, all) {
         return malformed(whole, output, leg);
     }
-    let bytes = record(source, std::num::wrapping_add_usize(whole.at, 3), n);
+    let bytes = record(source, on(whole.at, 3), n);
     let answer = submitted(leg, bytes, n);
     let next = answer.leg;
     let numbered = output::put(sink, output, 1, answer.number as u64);
@@ -169,9 +170,9 @@ fn block(
     if !input::holds(head, 13) {
         return malformed(head, output, leg);
     }
-    let start = input::time(source, std::num::wrapping_add_usize(head.at, 1));
-    let frames = input::count(source, std::num::wrapping_add_usize(head.at, 9), 2);
-    let m = input::count(source, std::num::wrapping_add_usize(head.at, 11), 2);
+    let start = input::time(source, on(head.at, 1));
+    let frames = input::count(source, on(head.at, 9), 2);
+    let m = input::count(source, on(head.at, 11), 2);
     if entries.len() < m {
         return malformed(head, output, leg);
     }
@@ -204,7 +205,7 @@ fn placed(
     if !input::holds(head, 491) {
         return malformed(head, output, leg);
     }
-    let read = leg_bytes::read_leg(source, std::num::wrapping_add_usize(head.at, 1));
+    let read = leg_bytes::read_leg(source, on(head.at, 1));
     if !read.good {
         return malformed(head, output, leg);
     }
@@ -273,9 +274,9 @@ fn blocks(
     if !input::holds(head, 15) {
         return malformed(head, output, leg);
     }
-    let start = input::time(source, std::num::wrapping_add_usize(head.at, 1));
-    let frames = input::count(source, std::num::wrapping_add_usize(head.at, 9), 2);
-    let count = input::number(source, std::num::wrapping_add_usize(head.at, 11), 4);
+    let start = input::time(source, on(head.at, 1));
+    let frames = input::count(source, on(head.at, 9), 2);
+    let count = input::number(source, on(head.at, 11), 4);
     if 4096 < frames {
         return malformed(head, output, leg);
     }

@@ -10,7 +10,7 @@ use lib.ListN.{length, getD, set, length-set}
 use lib.Seq.{getD-set-same, getD-set-other}
 use lib.Ieee.{Float, nan, isNan, ofBits, binary32}
 use borrow.Author.Tests.{eqb-true, eqb-false}
-use Rattle.sampler_voice.proofs.NoNan.{Number}
+use Rattle.laws.proofs.NoNan.{Number}
 use borrow.Author.Needs.{needs}
 use Rattle.trial.proofs.run.clear.Statement.{statement}
 use Rattle.trial.proofs.run.clear.Tie as tie

@@ -9,7 +9,7 @@ use lib.IntN.{pos}
 use lib.Dec.{T, ltb, eqb, ltb→lt, eqb→eq}
 use lib.Ieee.{Float, nan, inf, fin, up, down, le}
 use lib.Ieee.Fits.{and-l}
-use Rattle.sampler_voice.proofs.Bounds.{AtMost}
+use Rattle.laws.proofs.Bounds.{AtMost}
 
 under : (a b : ℕ) (t : Bool) → T (ltb a b || (eqb a b && t)) → a ≤ b
 under a b t h = go (ltb a b) (eqb a b) (ltb→lt a b) (eqb→eq a b) h
