@@ -3,6 +3,8 @@
 pub mod Near
 pub mod Minus
 pub mod Tests
+-- Rules: what it says that a call is not refused.
+pub mod Rules
 -- Round: what `round` does to a fraction, in whole numbers. Operations: the operations on floats by fractions. Fit: values that a format has. Whole: the nearest whole
 -- number by one sum with 2 ^ 52. Error: several roundings.
 pub mod Round

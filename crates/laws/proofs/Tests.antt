@@ -1,8 +1,8 @@
--- A test's answer as a fact, and the tests of a float against a power of two, zero and the infinities.
--- The idea: a test on floats computes to one on the fractions' cross products. Assumes nothing.
+-- A test's answer as a fact, tests joined by "and" and "or", and the tests of a float against a power of two, zero and the infinities.
+-- The idea: a joined test goes by its first; a test on floats computes to one on the fractions' cross products. Assumes nothing.
 use mathlib.Core.Path.{_≡_, refl, sym, ap, subst, subst₂}
 use mathlib.Core.Logic.{inl, inr}
-use mathlib.Core.Bool.{Bool, true, false, not, _&&_, _||_, true≢false}
+use mathlib.Core.Bool.{Bool, true, false, not, _&&_, _||_, true≢false, false≢true}
 use Prim.Native.Nat.{ℕ, _+_, _*_, _^_, _≤_, _<_}
 use native.Mathlib.Nat.{le-trans, le-of-eq, eq-or-lt-of-le, lt-of-lt-of-le, lt-of-le-of-lt, mul-one, one-mul, mul-right-comm, mul-le-mul-left, mul-le-mul-right, mul-lt-mul-of-pos-right, lt-of-mul-lt-mul-right}
 use native.Mathlib.Omega.{arith}
@@ -22,6 +22,22 @@ yes h = subst T (sym h) tt
 
 pub no : {b : Bool} → b ≡ false → T (not b)
 no h = subst (λ (a : Bool). T (not a)) (sym h) tt
+
+-- ---- two tests at once
+pub both : {a b : Bool} → a ≡ true → b ≡ true → (a && b) ≡ true
+both p q = rw (p, q)
+
+pub one-of : (a b : Bool) → (a && b) ≡ true → a ≡ true
+one-of true b h = refl
+one-of false b h = h
+
+pub other-of : (a b : Bool) → (a && b) ≡ true → b ≡ true
+other-of true b h = h
+other-of false b h = absurd (false≢true h)
+
+pub neither : (a b : Bool) → (a || b) ≡ false → (a ≡ false) × (b ≡ false)
+neither true b e = (e, cc)
+neither false b e = (refl, e)
 
 -- ---- a power of two
 pub lt-pow : (x : Float) (w : ℕ) → T (positive x) → T (lt x (fin false 1 (pos w))) → num x < 2 ^ w * den x

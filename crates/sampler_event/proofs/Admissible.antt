@@ -2,11 +2,11 @@
 -- The idea: `eventOf` finds kinds 2 and 6 at time 0 only, and a command takes what it finds past 10, 11 and 12. Assumes nothing.
 use Prim.Native.Nat.{ℕ, _^_}
 use mathlib.Core.Path.{_≡_, refl, subst}
-use mathlib.Core.Bool.{Bool, true, false, _&&_, _||_, cond, false≢true}
+use mathlib.Core.Bool.{Bool, true, false, _&&_, _||_, cond, and-eq-true-iff}
 use mathlib.Core.List.{List, [], _∷_}
 use mathlib.Core.Option.{Option, none, some}
 use borrow.Author.Tests.{eqb-true, not-false}
-use lib.Dec.{eqb, lit<}
+use lib.Dec.{eqb}
 use lib.IntN.{pos}
 use lib.ListN.{length}
 use Rattle.timestamp.specs.declared.Timestamp.{Timestamp}
@@ -14,33 +14,29 @@ use Rattle.sampler_event.specs.declared.Kind.{Kind}
 use Rattle.sampler_event.specs.declared.Kind.the-variants.{Start, StartImmediate, Stop, EnableLoop, CancelLoop, CancelAll}
 use Rattle.sampler_event.specs.declared.Event.{Event}
 use Rattle.sampler_event.specs.declared.Record.{Record}
-use Rattle.sampler_event.specs.Rules.{within, rule}
+use Rattle.laws.specs.Rules.{within, rule}
 use Rattle.sampler_event.specs.Events.{timed}
 use Rattle.sampler_event.specs.Record.{isZero, eventIf, eventOf, fields, readRecord}
 use Rattle.sampler_event.specs.Limits.{timeBad, positionsBad, loopBad, eventFault, admissible}
 use Rattle.sampler_event.specs.Command.{commandAnswer}
 use Rattle.sampler_event.proofs.Limits.{UpTo, within-up}
-use Rattle.sampler_event.proofs.Rules.{passes}
+use Rattle.laws.proofs.Rules.{held}
 use Rattle.sampler_event.proofs.Answers.{taken}
 
 -- ---- what it has passed
-pub record Admitted (R F : ℕ) (e : Event) : Type 0 where
+pub record Passed (R F : ℕ) (e : Event) : Type 0 where
   pub time : timeBad e ≡ false
   pub places : positionsBad (e .kind) ≡ false
   pub loop : loopBad R F (e .kind) ≡ false
   pub timely : (timed (e .kind) || isZero (e .time)) ≡ true
 
-both : (a b : Bool) → (a && b) ≡ true → (a ≡ true) × (b ≡ true)
-both true b e = (refl, e)
-both false b e = absurd (false≢true e)
-
-pub admitted : (R F : ℕ) (e : Event) → admissible R F e ≡ true → Admitted R F e
+pub passed : (R F : ℕ) (e : Event) → admissible R F e ≡ true → Passed R F e
 unfolding admissible eventFault
-admitted R F e h =
-    let p = both (eqb (eventFault R F e) 0) (timed (e .kind) || isZero (e .time)) h in
-    let a = passes 10 (timeBad e) (rule 11 (positionsBad (e .kind)) ∷ rule 12 (loopBad R F (e .kind)) ∷ []) (lit< tt) (eqb-true (eventFault R F e) 0 (p .0)) in
-    let b = passes 11 (positionsBad (e .kind)) (rule 12 (loopBad R F (e .kind)) ∷ []) (lit< tt) (a .1) in
-    let c = passes 12 (loopBad R F (e .kind)) [] (lit< tt) (b .1) in
+passed R F e h =
+    let p = and-eq-true-iff (eqb (eventFault R F e) 0) (timed (e .kind) || isZero (e .time)) .0 h in
+    let a = held 9 (timeBad e) (rule 11 (positionsBad (e .kind)) ∷ rule 12 (loopBad R F (e .kind)) ∷ []) (eqb-true (eventFault R F e) 0 (p .0)) in
+    let b = held 10 (positionsBad (e .kind)) (rule 12 (loopBad R F (e .kind)) ∷ []) (a .1) in
+    let c = held 11 (loopBad R F (e .kind)) [] (b .1) in
     record { time = a .0; places = b .0; loop = c .0; timely = p .1 }
 
 pub time-up : (e : Event) → timeBad e ≡ false → UpTo (2 ^ 48) (e .time .bits)
@@ -66,11 +62,11 @@ read-timely w =
     let second = isZero (w .second) in
     let points = isZero (w .first) && second in
     of-two (eqb (w .kind) 1) _ _ (of-if second (w .time) (Start (w .first)) (λ z. refl))
-    (of-two (eqb (w .kind) 2) _ _ (of-if (t && points) (w .time) StartImmediate (λ z. both t points z .0))
+    (of-two (eqb (w .kind) 2) _ _ (of-if (t && points) (w .time) StartImmediate (λ z. and-eq-true-iff t points .0 z .0))
     (of-two (eqb (w .kind) 3) _ _ (of-if points (w .time) Stop (λ z. refl))
     (of-two (eqb (w .kind) 4) _ _ (of-if true (w .time) (EnableLoop (w .first) (w .second)) (λ z. refl))
     (of-two (eqb (w .kind) 5) _ _ (of-if points (w .time) CancelLoop (λ z. refl))
-    (of-two (eqb (w .kind) 6) _ none (of-if (t && points) (w .time) CancelAll (λ z. both t points z .0)) tt)))))
+    (of-two (eqb (w .kind) 6) _ none (of-if (t && points) (w .time) CancelAll (λ z. and-eq-true-iff t points .0 z .0)) tt)))))
 
 record-timely : (s : List ℕ) → Timely (readRecord s)
 unfolding readRecord

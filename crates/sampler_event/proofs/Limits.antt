@@ -12,7 +12,7 @@ use lib.Signed.{ltZ, leZ}
 use mir.Facts.{and-yes}
 use Rattle.laws.proofs.Tests.{yes}
 use Rattle.laws.proofs.Minus.{Minus, nltZ-minus, plus-minus, neg-minus, nat-minus, minus-pos, minus-negsuc}
-use Rattle.sampler_event.specs.Rules.{within}
+use Rattle.laws.specs.Rules.{within}
 use Rattle.sampler_event.specs.Limits.{placeBad, loopShort}
 
 -- z is a natural number of at most m
@@ -26,11 +26,6 @@ within-up m (negsuc n) e = absurd (false≢true e)
 
 pub place-up : (z : ℤ) → placeBad z ≡ false → UpTo (2 ^ 42) z
 place-up z e = within-up (2 ^ 42) z (not-false (within (pos 0) (pos (2 ^ 42)) z) e)
-
--- two positions pass 11 where both do
-pub neither : (a b : Bool) → (a || b) ≡ false → (a ≡ false) × (b ≡ false)
-neither true b e = (e, cc)
-neither false b e = (refl, e)
 
 -- ---- rule 12
 is-below : (x y : ℤ) (a b c d : ℕ) → Minus x a b → Minus y c d → a + d < c + b → true ≡ ltZ x y

@@ -8,7 +8,7 @@ use lib.Signed.{ltZ}
 use Rattle.sampler_event.specs.declared.Kind.{Kind}
 use Rattle.sampler_event.specs.declared.Kind.the-variants.{Start, StartImmediate, Stop, EnableLoop, CancelLoop, CancelAll}
 use Rattle.sampler_event.specs.declared.Event.{Event}
-use Rattle.sampler_event.specs.Rules.{within, Rule, rule, firstBroken}
+use Rattle.laws.specs.Rules.{within, Rule, rule, firstBroken}
 use Rattle.sampler_event.specs.Events.{timed}
 use Rattle.sampler_event.specs.Record.{isZero}
 

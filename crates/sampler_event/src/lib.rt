@@ -7,7 +7,7 @@ ghost use mathlib.Core.Bool.{false};
 ghost use Prim.Native.Nat.{_+_, _^_, _≤_, _<_, max};
 ghost use lib.IntN.{pos};
 ghost use lib.ListN.{length, take, drop};
-ghost use Rattle.sampler_event.specs.Rules.{within};
+ghost use Rattle.laws.specs.Rules.{within};
 ghost use Rattle.sampler_event.specs.Events.{eventAt, eventNow, blankEvent, timed, isCancelAll};
 ghost use Rattle.sampler_event.specs.Record.{little, asI64, timeFrom, fields, isZero, eventIf, eventOf};
 ghost use Rattle.sampler_event.specs.Limits.{placeBad, positionsBad, loopShort, loopBad, eventFault, admissible};

@@ -10,7 +10,7 @@ use lib.ListN.{length, getD, List·getD-eq-default}
 use lib.Ieee.{Float, nan, lt, le, eq, ofBits}
 use lib.Ieee.Bits.{is-true}
 use Rattle.sampler_fade.specs.Entry.{none, one, entry, cleanedFade, fadeAt, fadeIn, fadeOut}
-use Rattle.sampler_fade.specs.Rule.{Rule, Within, scaled}
+use Rattle.sampler_fade.specs.FadeRule.{FadeRule, Within, scaled}
 
 -- the default does not matter inside
 getD-any : {A : Type 0} (xs : List A) (d e : A) (i : ℕ) → i < length xs → getD xs i d ≡ getD xs i e
@@ -48,7 +48,7 @@ clean : (x : Float) → T (le none x) → T (le x one) → cleanedFade x ≡ x
 unfolding cleanedFade
 clean x a b = simp (is-true (le none x) a, is-true (le x one) b)
 
-module _ (table : List Float) (r : Rule table) where
+module _ (table : List Float) (r : FadeRule table) where
   low : (i : ℕ) → i < length table → T (le none (entry table i))
   low zero h = subst (λ (x : Float). T (le none x)) (sym (r .first)) zero-le-zero
   low (suc i) h = lt-le none (entry table (suc i)) (subst (λ (x : Float). T (lt x (entry table (suc i)))) (r .first) (r .rising 0 (suc i) (zero-lt-suc i) h))

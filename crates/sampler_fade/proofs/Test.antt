@@ -11,7 +11,7 @@ use lib.Dec.{T, leb, ltb, eqb, leb→le, ltb→lt, eqb→eq}
 use lib.ListN.{length, getD, List·getD-eq-default}
 use lib.Ieee.{binary32}
 use lib.Ieee.Fits.{and-l, and-r}
-use Rattle.sampler_fade.specs.Rule.{Within}
+use Rattle.sampler_fade.specs.FadeRule.{Within}
 use Rattle.sampler_fade.proofs.Patterns.{inUnits}
 use Rattle.sampler_fade.proofs.Mirror.{getD-reverse}
 

@@ -1,4 +1,4 @@
--- What the contracts of `sampler_fade` cite. Entry: a table's entries. Bits: the two tables. Rule: what holds of each table.
+-- What the contracts of `sampler_fade` cite. Entry: a table's entries. Bits: the two tables. FadeRule: what holds of each table.
 pub mod Entry
 pub mod Bits
-pub mod Rule
+pub mod FadeRule

@@ -6,7 +6,7 @@ ghost use lib.ListN.{length, getD};
 ghost use Rattle.timestamp.specs.Time.{fadeLength};
 ghost use Rattle.sampler_fade.specs.Bits.{bits48000, bits8000};
 ghost use Rattle.sampler_fade.specs.Entry.{tableOf, cleanedFade, fadeAt, fadeIn, fadeOut};
-ghost use Rattle.sampler_fade.specs.Rule.{Rule};
+ghost use Rattle.sampler_fade.specs.FadeRule.{FadeRule};
 
 mod tables;
 
@@ -50,7 +50,7 @@ pub fn length(rate: usize) -> usize
 // The table of 48,000 frames a second. It keeps document 01's rule of fade tables.
 pub fn table_48000() -> [f32; 2400]
     ensures { λ r. ⌜ r ≡ tableOf bits48000 ⌝ }
-    ensures { λ r. ⌜ Rule r ⌝ }
+    ensures { λ r. ⌜ FadeRule r ⌝ }
 {
     let bits = bits_48000();
     let mut table = [0.0; 2400];
@@ -61,7 +61,7 @@ pub fn table_48000() -> [f32; 2400]
 // The same of 8,000.
 pub fn table_8000() -> [f32; 400]
     ensures { λ r. ⌜ r ≡ tableOf bits8000 ⌝ }
-    ensures { λ r. ⌜ Rule r ⌝ }
+    ensures { λ r. ⌜ FadeRule r ⌝ }
 {
     let bits = bits_8000();
     let mut table = [0.0; 400];

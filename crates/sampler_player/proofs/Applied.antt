@@ -13,7 +13,7 @@ use Rattle.timestamp.specs.declared.Timestamp.{Timestamp}
 use Rattle.sampler_event.specs.declared.Event.{Event}
 use Rattle.sampler_event.specs.declared.Kind.{Kind}
 use Rattle.sampler_event.specs.declared.Kind.the-variants.{Start, StartImmediate, Stop, EnableLoop, CancelLoop, CancelAll}
-use Rattle.sampler_event.specs.Rules.{within}
+use Rattle.laws.specs.Rules.{within}
 use Rattle.sampler_event.specs.Limits.{timeBad, placeBad, positionsBad, loopBad, eventFault, admissible}
 use Rattle.sampler_event.specs.Events.{timed}
 use Rattle.sampler_event.specs.Record.{isZero}
@@ -25,8 +25,10 @@ use Rattle.sampler_player.specs.declared.Player.{Player}
 use Rattle.sampler_player.specs.Clock.{clockAt}
 use Rattle.sampler_player.specs.Assign.{stop, assign}
 use Rattle.sampler_player.specs.Events.{pointed, begun, apply}
-use Rattle.sampler_player.specs.Sound.{pointsGood, kept}
-use Rattle.sampler_player.proofs.Kept.{both, one-of, opened, closed, loops-opened, loops-closed, stands, stands-within}
+use Rattle.sampler_player.specs.Sound.{pointsGood}
+use Rattle.sampler_player.specs.inner.Kept.{kept}
+use Rattle.sampler_player.proofs.Kept.{opened, closed, loops-opened, loops-closed, stands, stands-within}
+use Rattle.laws.proofs.Tests.{both, one-of}
 use Rattle.sampler_player.proofs.Assigned.{stop-kept, assign-kept}
 
 -- the two parts of an event's effect that are not voices

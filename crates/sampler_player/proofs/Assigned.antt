@@ -17,7 +17,7 @@ use Rattle.sampler_player.specs.declared.Setup.{Setup}
 use Rattle.sampler_player.specs.declared.Player.{Player}
 use Rattle.sampler_player.specs.Clock.{clockAt}
 use Rattle.sampler_player.specs.Assign.{stop, firstStopped, begin, activeAt, assignAt, assign}
-use Rattle.sampler_player.specs.Sound.{kept}
+use Rattle.sampler_player.specs.inner.Kept.{kept}
 use Rattle.sampler_player.proofs.Kept.{opened, closed, stands, stands-within}
 use Rattle.sampler_player.proofs.Held.{stopped-none, begins}
 use Rattle.sampler_player.proofs.Voices.{voices-less, stopped-voices, started-voices}

@@ -20,7 +20,7 @@ use Rattle.timestamp.proofs.Interval as I
 use Rattle.sampler_player.specs.declared.Setup.{Setup}
 use Rattle.sampler_player.specs.Clock.{clockAt}
 use Rattle.sampler_player.specs.Pieces.{nearer}
-use Rattle.sampler_player.specs.Stroke.{halfFrame}
+use Rattle.sampler_player.specs.inner.Stroke.{halfFrame}
 
 module _ (R : ℕ) (lo : 8000 ≤ R) (hi : R ≤ 96000) where
   pub half-least : 2 ^ 31 ≤ halfFrame R * R

@@ -9,7 +9,7 @@ use Rattle.sampler_player.specs.declared.Points.the-variants.{Absent, Be
 use Rattle.sampler_player.specs.declared.Setup.{Setup}
 use Rattle.sampler_player.specs.Clock.{Clock}
 use Rattle.sampler_player.specs.Pieces.{Lent, Going, interval, after, rendered, caughtUp, passOf, pass, passes, segment}
-use Rattle.sampler_player.specs.Lending.{starting}
+use Rattle.sampler_player.specs.inner.Lending.{starting}
 
 -- with n pieces before
 abbrev pub adding : ℕ → Going → Going

@@ -21,11 +21,12 @@ use Rattle.sampler_player.specs.declared.Setup.{Setup}
 use Rattle.sampler_player.specs.declared.Player.{Player}
 use Rattle.sampler_player.specs.Clock.{clockAt}
 use Rattle.sampler_player.specs.Pieces.{endOf, nearer, interval}
-use Rattle.sampler_player.specs.Sound.{pointsGood, kept}
+use Rattle.sampler_player.specs.Sound.{pointsGood}
+use Rattle.sampler_player.specs.inner.Kept.{kept}
 use Rattle.sampler_player.proofs.Assign.{counted}
 use Rattle.sampler_player.proofs.Kept.{opened, closed, loops-opened, loops-closed, Stands, stands, Looped, looped}
 use Rattle.sampler_player.proofs.Catch.{piece, catches, sounds}
-use Rattle.sampler_player.specs.Stroke.{halfFrame, loopLength, due, caughtTo}
+use Rattle.sampler_player.specs.inner.Stroke.{halfFrame, loopLength, due, caughtTo}
 
 -- ---- the numbers of a player with a loop
 pub record Looping (s : Setup) (x : ℕ) (from end : Timestamp) (p : Player) : Type 0 where

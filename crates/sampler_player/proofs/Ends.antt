@@ -19,7 +19,7 @@ use Rattle.timestamp.proofs.Loop.{E-exact, E-late}
 use Rattle.sampler_player.specs.declared.Setup.{Setup}
 use Rattle.sampler_player.specs.Clock.{clockAt}
 use Rattle.sampler_player.specs.Pieces.{nearer}
-use Rattle.sampler_player.specs.Stroke.{lastStop}
+use Rattle.sampler_player.specs.inner.Stroke.{lastStop}
 use Rattle.sampler_player.proofs.Sized.{below-size, sum-size, fits-size}
 
 -- ---- the earlier of two times

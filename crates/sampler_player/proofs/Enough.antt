@@ -11,7 +11,7 @@ use Rattle.sampler_player.specs.declared.Points.the-variants.{Absent, Be
 use Rattle.sampler_player.specs.declared.Setup.{Setup}
 use Rattle.sampler_player.specs.Clock.{clockAt}
 use Rattle.sampler_player.specs.Pieces.{Lent, Going, interval, after, rendered, caughtUp, passOf, pass, passes, segment}
-use Rattle.sampler_player.specs.Sound.{kept}
+use Rattle.sampler_player.specs.inner.Kept.{kept}
 use Rattle.sampler_player.proofs.Fuel.{Over, within-remaining, segment-ended}
 use Rattle.sampler_player.proofs.Kept.{opened, loops-opened}
 use Rattle.sampler_player.proofs.Assigned.{kept-less}

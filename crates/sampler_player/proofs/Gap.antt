@@ -16,7 +16,7 @@ use Rattle.timestamp.proofs.Frames.{short}
 use Rattle.timestamp.proofs.Interval.{interval-int, frames-to}
 use lib.Ieee.Nearest.{closest}
 use Rattle.sampler_player.specs.Clock.{notNegative}
-use Rattle.sampler_player.specs.Stroke.{lastStop}
+use Rattle.sampler_player.specs.inner.Stroke.{lastStop}
 use Rattle.sampler_player.proofs.Sized.{below-size, above-minus}
 use Rattle.sampler_player.proofs.Ends.{less}
 

@@ -9,10 +9,11 @@ use lib.Dec.{eqb, leb}
 use lib.ListN.{length}
 use lib.Ieee.{Float}
 use Rattle.sampler_voice.specs.declared.Voice.{Voice}
-use Rattle.sampler_voice.specs.Sound.{Room}
-use Rattle.sampler_voice.specs.Voices.{isStopped, fadeGood, Ahead}
-use Rattle.sampler_player.specs.Sound.{voicesKept}
-use Rattle.sampler_player.proofs.Kept.{one-of, other-of}
+use Rattle.sampler_voice.specs.inner.Room.{Room}
+use Rattle.sampler_voice.specs.Voices.{isStopped, fadeGood}
+use Rattle.sampler_voice.specs.inner.Room.{Ahead}
+use Rattle.sampler_player.specs.inner.Kept.{voicesKept}
+use Rattle.laws.proofs.Tests.{one-of, other-of}
 use Rattle.sampler_player.proofs.Voice.{voice-opened}
 
 -- every position has room

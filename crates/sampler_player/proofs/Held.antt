@@ -15,7 +15,7 @@ use Rattle.sampler_player.specs.declared.Active.{Active}
 use Rattle.sampler_player.specs.declared.Active.the-variants.{Neither, Number}
 use Rattle.sampler_player.specs.Assign.{oneMore, firstStopped, startIn}
 use Rattle.sampler_player.specs.Sound.{noneHeld, onlyHeld, activeGood}
-use Rattle.sampler_player.proofs.Kept.{both, one-of, other-of}
+use Rattle.laws.proofs.Tests.{both, one-of, other-of}
 
 -- ---- Stop
 ended-held : (ph : Phase) → not (isHeld (ended ph)) ≡ true

@@ -9,35 +9,17 @@ use borrow.Author.Tests.{leb-true, leb-false, le-leb, not-true, ltb-false}
 use lib.Dec.{leb}
 use lib.IntN.{ℤ, pos, negsuc, negℤ, natAbs}
 use lib.Signed.{leZ}
+use Rattle.laws.proofs.Tests.{both, one-of, other-of, neither}
 use Rattle.laws.proofs.Minus.{Minus, above, below}
 use Rattle.timestamp.specs.declared.Timestamp.{Timestamp}
-use Rattle.sampler_event.specs.Rules.{within}
+use Rattle.laws.specs.Rules.{within}
 use Rattle.sampler_event.specs.Limits.{placeBad, loopShort}
 use Rattle.sampler_event.proofs.Limits.{place-up, short-back, short-on}
 use Rattle.sampler_player.specs.declared.Points.the-variants.{Between}
 use Rattle.sampler_player.specs.declared.Setup.{Setup}
 use Rattle.sampler_player.specs.declared.Player.{Player}
-use Rattle.sampler_player.specs.Sound.{activeGood, voicesKept, pointsGood, loopGood, kept}
-
--- ---- a conjunction
-pub both : {a b : Bool} → a ≡ true → b ≡ true → (a && b) ≡ true
-both p q = rw (p, q)
-
-pub one-of : (a b : Bool) → (a && b) ≡ true → a ≡ true
-one-of true b h = refl
-one-of false b h = h
-
-pub other-of : (a b : Bool) → (a && b) ≡ true → b ≡ true
-other-of true b h = h
-other-of false b h = absurd (false≢true h)
-
-pub neither-one : (a b : Bool) → (a || b) ≡ false → a ≡ false
-neither-one true b h = h
-neither-one false b h = refl
-
-pub neither-other : (a b : Bool) → (a || b) ≡ false → b ≡ false
-neither-other true b h = absurd (true≢false h)
-neither-other false b h = h
+use Rattle.sampler_player.specs.Sound.{activeGood, pointsGood, loopGood}
+use Rattle.sampler_player.specs.inner.Kept.{voicesKept, kept}
 
 -- ---- the tests of `kept`
 pub record Kept (s : Setup) (x : ℕ) (p : Player) : Type 0 where
@@ -130,7 +112,7 @@ looped s from end h =
     let y = loopShort (s .rate) (s .fade) (from .bits) (end .bits) in
     let f : x ≡ false = not-true x (one-of (not x) (not y) h) in
     let g : y ≡ false = not-true y (other-of (not x) (not y) h) in
-    let a = place-up (from .bits) (neither-one (placeBad (from .bits)) (placeBad (end .bits)) f) in
-    let e = place-up (end .bits) (neither-other (placeBad (from .bits)) (placeBad (end .bits)) f) in
+    let a = place-up (from .bits) (neither (placeBad (from .bits)) (placeBad (end .bits)) f .0) in
+    let e = place-up (end .bits) (neither (placeBad (from .bits)) (placeBad (end .bits)) f .1) in
     looped-at s from end (natAbs (from .bits)) (natAbs (end .bits)) (a .is) (e .is) (e .most)
     (subst₂ (λ (m n : ℤ). loopShort (s .rate) (s .fade) m n ≡ false) (a .is) (e .is) g)

@@ -22,14 +22,14 @@ use Rattle.sampler_player.specs.declared.Setup.{Setup}
 use Rattle.sampler_player.specs.declared.Player.{Player}
 use Rattle.sampler_player.specs.Clock.{clockAt}
 use Rattle.sampler_player.specs.Pieces.{Lent, bothMixed, Going, interval, loopBack, rendered}
-use Rattle.sampler_player.specs.Sound.{kept, voicesKept}
+use Rattle.sampler_player.specs.inner.Kept.{kept, voicesKept}
 use Rattle.sampler_player.proofs.Assign.{counted}
 use Rattle.sampler_player.proofs.Kept.{opened, closed, stands, stands-within, stands-at}
 use Rattle.sampler_player.proofs.Held.{mix-active}
 use Rattle.sampler_player.proofs.Voices.{mix-voices}
 use Rattle.sampler_player.proofs.Assigned.{assign-kept}
 use Rattle.sampler_player.proofs.Due.{looping, kept-counted}
-use Rattle.sampler_player.specs.Stroke.{loopLength, due, caughtTo}
+use Rattle.sampler_player.specs.inner.Stroke.{loopLength, due, caughtTo}
 use Rattle.sampler_player.proofs.Stroke.{catches-when, stroke-few, stroke-more, stroked}
 
 -- T(n) is at most n times 2^20

@@ -11,12 +11,14 @@ use lib.IntN.{ℤ, pos, negsuc, negℤ}
 use lib.Signed.{ltZ}
 use Rattle.sampler_voice.specs.declared.Voice.{Voice}
 use Rattle.sampler_voice.specs.Voices.{isStopped, fadeGood}
-use Rattle.sampler_event.specs.Rules.{within}
+use Rattle.laws.specs.Rules.{within}
 use Rattle.sampler_player.specs.declared.Setup.{Setup}
 use Rattle.sampler_player.specs.declared.Player.{Player}
 use Rattle.sampler_player.specs.Assign.{quiet}
-use Rattle.sampler_player.specs.Sound.{anyFar, farBad, activeGood, voicesGood, loopGood, playerGood, voicesKept, kept}
-use Rattle.sampler_player.proofs.Kept.{both, one-of, other-of, neither-one, neither-other, opened, closed, stands-within}
+use Rattle.sampler_player.specs.Sound.{anyFar, farBad, activeGood, voicesGood, loopGood, playerGood}
+use Rattle.sampler_player.specs.inner.Kept.{voicesKept, kept}
+use Rattle.sampler_player.proofs.Kept.{opened, closed, stands-within}
+use Rattle.laws.proofs.Tests.{both, one-of, other-of, neither}
 
 -- ---- the tests of `playerGood`
 pub record Good (s : Setup) (p : Player) : Type 0 where
@@ -52,8 +54,8 @@ voices-in F x (v ∷ vs) l h g =
     let b = leb (v .position) (2 ^ 40) in
     let f : (a && b) ≡ true = one-of (a && b) (voicesGood F vs) h in
     let c = not (isStopped (v .phase)) && ltb (2 ^ 39) (v .position) in
-    both (both (one-of a b f) (both (other-of a b f) (near-fits (isStopped (v .phase)) (v .position) x l (neither-one c (anyFar vs) g))))
-    (voices-in F x vs l (other-of (a && b) (voicesGood F vs) h) (neither-other c (anyFar vs) g))
+    both (both (one-of a b f) (both (other-of a b f) (near-fits (isStopped (v .phase)) (v .position) x l (neither c (anyFar vs) g .0))))
+    (voices-in F x vs l (other-of (a && b) (voicesGood F vs) h) (neither c (anyFar vs) g .1))
 
 voices-out : (F x : ℕ) (vs : List Voice) → voicesKept F x vs ≡ true → voicesGood F vs ≡ true
 voices-out F x [] h = refl
@@ -82,8 +84,8 @@ good-kept s x p l h g =
     closed s x p
     (record {
       active = o .active;
-      voices = voices-in (s .fade) x (p .voices) l (o .voices) (neither-other c (anyFar (p .voices)) g);
-      position = position-in x (p .position .bits) l (o .position) (neither-one c (anyFar (p .voices)) g);
+      voices = voices-in (s .fade) x (p .voices) l (o .voices) (neither c (anyFar (p .voices)) g .1);
+      position = position-in x (p .position .bits) l (o .position) (neither c (anyFar (p .voices)) g .0);
       loops = o .loops;
     })
 

@@ -16,8 +16,8 @@ use Rattle.sampler_player.specs.declared.Setup.{Setup}
 use Rattle.sampler_player.specs.declared.Points.the-variants.{Between}
 use Rattle.sampler_player.specs.declared.Player.{Player}
 use Rattle.sampler_player.specs.Clock.{notNegative}
-use Rattle.sampler_player.specs.Sound.{kept}
-use Rattle.sampler_player.specs.Stroke.{loopLength, reaching}
+use Rattle.sampler_player.specs.inner.Kept.{kept}
+use Rattle.sampler_player.specs.inner.Stroke.{loopLength, reaching}
 use Rattle.sampler_player.proofs.Due.{Looping, looping, length-pos, length-is}
 use Rattle.sampler_player.proofs.Target.{long-some}
 use Rattle.sampler_player.proofs.Sized.{stands-size}

@@ -15,7 +15,7 @@ use Rattle.sampler_player.specs.declared.Setup.{Setup}
 use Rattle.sampler_player.specs.declared.Player.{Player}
 use Rattle.sampler_player.proofs.Catch.{half-small}
 use Rattle.sampler_player.proofs.Due.{Looping, length-is, due-is}
-use Rattle.sampler_player.specs.Stroke.{halfFrame, loopLength, due, caughtTo}
+use Rattle.sampler_player.specs.inner.Stroke.{halfFrame, loopLength, due, caughtTo}
 
 -- ---- a quotient rounded up
 module _ (n L : ℕ) (some-length : 0 < L) where

@@ -16,9 +16,9 @@ use Rattle.sampler_player.specs.declared.Setup.{Setup}
 use Rattle.sampler_player.specs.declared.Player.{Player}
 use Rattle.sampler_player.specs.Clock.{clockAt}
 use Rattle.sampler_player.specs.Pieces.{Lent, Going, Segment, leftBy, interval, rendered}
-use Rattle.sampler_player.specs.Sound.{kept}
-use Rattle.sampler_player.specs.Stroke.{loopLength, due, caughtTo, looped, strokeAt, strokeOf}
-use Rattle.sampler_player.specs.Lending.{starting, ending}
+use Rattle.sampler_player.specs.inner.Kept.{kept}
+use Rattle.sampler_player.specs.inner.Stroke.{loopLength, due, caughtTo, looped, strokeAt, strokeOf}
+use Rattle.sampler_player.specs.inner.Lending.{starting, ending}
 use Rattle.sampler_player.proofs.Fuel.{Over, Reach, reach-next, reach-jump}
 use Rattle.sampler_player.proofs.Passes.{pass-sounds, pass-ends}
 use Rattle.sampler_player.proofs.Stroke.{going, catches-when, stroke, stroke-sounds}

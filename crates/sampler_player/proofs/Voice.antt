@@ -9,7 +9,7 @@ use lib.Dec.{ltb, leb, eqb}
 use Rattle.sampler_voice.specs.declared.Phase.{Phase}
 use Rattle.sampler_voice.specs.declared.Phase.the-variants.{Stopped, FadingIn, Playing, FadingOut}
 use Rattle.sampler_voice.specs.Voices.{isStopped, fadeGood, startedAt, ended, settled, nextPhase, nextPosition}
-use Rattle.sampler_player.proofs.Kept.{both, one-of, other-of}
+use Rattle.laws.proofs.Tests.{both, one-of, other-of}
 
 -- one voice, at p in a phase, with x frames to come
 abbrev pub Fits : ℕ → Phase → ℕ → Type 0

@@ -10,12 +10,13 @@ use lib.Dec.{leb}
 use lib.ListN.{length, getD, set}
 use lib.Ieee.{Float}
 use Rattle.sampler_voice.specs.declared.Voice.{Voice}
-use Rattle.sampler_voice.specs.Voices.{silent, Ahead, isStopped, fadeGood, startedAt, endedVoice, settled, Heard, lent, frame, frames, mix}
+use Rattle.sampler_voice.specs.Voices.{silent, isStopped, fadeGood, startedAt, endedVoice, settled, Heard, lent, frame, frames, mix}
+use Rattle.sampler_voice.specs.inner.Room.{Ahead}
 use Rattle.sampler_player.specs.declared.Active.{Active}
 use Rattle.sampler_player.specs.declared.Active.the-variants.{Neither, Number}
 use Rattle.sampler_player.specs.Assign.{startIn}
-use Rattle.sampler_player.specs.Sound.{voicesKept}
-use Rattle.sampler_player.proofs.Kept.{both, one-of, other-of}
+use Rattle.sampler_player.specs.inner.Kept.{voicesKept}
+use Rattle.laws.proofs.Tests.{both, one-of, other-of}
 use Rattle.sampler_player.proofs.Voice.{Voiced, voice-opened, voice-closed, fits-less, ended-voiced, started-voiced, settled-fits, next-voiced}
 
 -- ---- the first, and the others

@@ -24,6 +24,9 @@ pub record Lent : Type 0 where
   pub channels : ℕ
   pub block : ℕ
 
+abbrev pub lending : List Float → List Float → ℕ → ℕ → Lent
+lending rec table channels block = record { recording = rec; table = table; channels = channels; block = block }
+
 -- "The smaller of the two channel counts is mixed": both channels where it is 2
 abbrev pub bothMixed : Setup → Lent → Bool
 bothMixed s b = eqb (min (s .channels) (b .channels)) 2

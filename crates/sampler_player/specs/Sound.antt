@@ -1,5 +1,5 @@
--- What number 8 and "A leg is damaged unless" (14) ask of what plays, and what its numbers stay within while a block goes on. Definitions only.
-use Prim.Native.Nat.{ℕ, zero, suc, _+_, _*_, _-_, _^_}
+-- What number 8 and "A leg is damaged unless" (14) ask of what plays. Definitions only.
+use Prim.Native.Nat.{ℕ, zero, suc, _^_}
 use mathlib.Core.Bool.{Bool, true, false, _&&_, _||_, not}
 use mathlib.Core.List.{List, [], _∷_}
 use lib.Dec.{leb, ltb}
@@ -7,7 +7,7 @@ use lib.IntN.{ℤ, pos, negℤ}
 use lib.Signed.{ltZ}
 use Rattle.sampler_voice.specs.declared.Voice.{Voice}
 use Rattle.sampler_voice.specs.Voices.{isStopped, isHeld, fadeGood}
-use Rattle.sampler_event.specs.Rules.{within}
+use Rattle.laws.specs.Rules.{within}
 use Rattle.sampler_event.specs.Limits.{placeBad, loopShort}
 use Rattle.sampler_player.specs.declared.Active.{Active}
 use Rattle.sampler_player.specs.declared.Active.the-variants.{Neither, Number}
@@ -59,15 +59,3 @@ unfoldable pub playerGood : Setup → Player → Bool
 playerGood s p =
     (activeGood (p .active) (p .voices) && voicesGood (s .fade) (p .voices))
     && (within (negℤ (pos (2 ^ 20))) (pos (2 ^ 49)) (p .position .bits) && loopGood s p)
-
--- ---- inside a block, with x of its frames still to come: each bound has room for x frames more, none of which is longer than 2 ^ 20 units
-
-abbrev pub voicesKept : ℕ → ℕ → List Voice → Bool
-voicesKept F x [] = true
-voicesKept F x (v ∷ vs) =
-    (fadeGood F (v .phase) && (leb (v .position) (2 ^ 40) && (isStopped (v .phase) || leb (v .position + x) (2 ^ 39 + 4096)))) && voicesKept F x vs
-
-unfoldable pub kept : Setup → ℕ → Player → Bool
-kept s x p =
-    (activeGood (p .active) (p .voices) && voicesKept (s .fade) x (p .voices))
-    && (within (negℤ (pos (2 ^ 20))) (pos (2 ^ 48 + 2 ^ 34 - x * 2 ^ 20)) (p .position .bits) && loopGood s p)

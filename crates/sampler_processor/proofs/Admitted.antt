@@ -7,12 +7,12 @@ use borrow.Author.Tests.{not-false}
 use lib.IntN.{ℤ}
 use lib.ListN.{drop}
 use lib.Ieee.{Float}
-use Rattle.sampler_event.specs.Rules.{rule, firstBroken}
+use Rattle.laws.specs.Rules.{rule, firstBroken}
 use Rattle.sampler_player.specs.Pieces.{Lent}
 use Rattle.sampler_player.specs.Sound.{farBad}
 use Rattle.sampler_processor.specs.declared.Leg.{Leg}
 use Rattle.sampler_processor.specs.Numbers.{channelsBad, recordingBad, tableBad, blockBad, outputBad, startBad, sound, renderOrder}
-use Rattle.sampler_processor.proofs.Orders.{held}
+use Rattle.laws.proofs.Rules.{held}
 
 pub record Admitted (l : Leg) (b : Lent) (out : List Float) (start : ℤ) : Type 0 where
   pub is-sound : sound l ≡ true

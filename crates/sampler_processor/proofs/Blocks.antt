@@ -16,7 +16,7 @@ use Rattle.timestamp.proofs.Drift.{Drift}
 use Rattle.timestamp.proofs.Event.{event-delay}
 use Rattle.sampler_event.specs.declared.Event.{Event}
 use Rattle.sampler_event.specs.declared.Kind.{Kind}
-use Rattle.sampler_event.specs.Rules.{within}
+use Rattle.laws.specs.Rules.{within}
 use Rattle.sampler_event.specs.Limits.{positionsBad, loopBad}
 use Rattle.event_processor.specs.declared.Queue.{Queue}
 use Rattle.event_processor.specs.Queue.{without}
@@ -25,7 +25,7 @@ use Rattle.sampler_player.specs.declared.Player.{Player}
 use Rattle.sampler_player.specs.Clock.{clockAt}
 use Rattle.sampler_player.specs.Events.{apply}
 use Rattle.sampler_player.specs.Pieces.{Lent, Going, segment}
-use Rattle.sampler_player.specs.Sound.{kept}
+use Rattle.sampler_player.specs.inner.Kept.{kept}
 use Rattle.sampler_player.proofs.Kept.{stands-at, stands-within}
 use Rattle.sampler_processor.specs.Block.{Running, Ended, blockEnd, upTo, applied, block}
 use Rattle.sampler_processor.proofs.Events.{Ordered, Stands, exactFrame, onwardAt, blockAt, end-is, below-end, frame-ahead, stands-next, stands-first, same-block}

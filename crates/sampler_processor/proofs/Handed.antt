@@ -13,7 +13,7 @@ use lib.Signed.{ltZ, leZ}
 use lib.Ieee.{Float}
 use Rattle.sampler_event.specs.declared.Event.{Event}
 use Rattle.sampler_event.specs.Events.{blankEvent}
-use Rattle.sampler_event.specs.Rules.{firstBroken, within}
+use Rattle.laws.specs.Rules.{firstBroken, within}
 use Rattle.sampler_event.specs.Limits.{admissible}
 use Rattle.sampler_event.proofs.Limits.{within-up}
 use Rattle.event_processor.specs.declared.Queue.{Queue}
@@ -21,7 +21,7 @@ use Rattle.event_processor.specs.Queue.{pending, without, each, inOrder, inOrde
 use Rattle.event_processor.proofs.Pending.{pending-without}
 use Rattle.sampler_player.specs.declared.Setup.{Setup}
 use Rattle.sampler_player.specs.Pieces.{Lent}
-use Rattle.sampler_player.specs.Sound.{kept}
+use Rattle.sampler_player.specs.inner.Kept.{kept}
 use Rattle.sampler_player.proofs.Enough.{segment-kept}
 use Rattle.sampler_player.proofs.Applied.{apply-kept}
 use Rattle.sampler_player.proofs.Sound.{kept-good}

@@ -7,7 +7,6 @@ pub mod Admitted
 pub mod Settled
 -- Orders: an order of rules from its front. Sizes: what the kept sizes bound. Pairs: two voices as a list. Waiting: the queue's test along its array. Output: rule 6 along a slice. Answers: what making and a command
 -- answer, by their parts. Readings: an event that a record is answered with is admissible.
-pub mod Orders
 pub mod Sizes
 pub mod Pairs
 pub mod Waiting

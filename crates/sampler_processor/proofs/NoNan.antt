@@ -13,7 +13,7 @@ use Rattle.sampler_player.specs.declared.Setup.{Setup}
 use Rattle.sampler_player.specs.Clock.{clockAt}
 use Rattle.sampler_player.specs.Pieces.{Lent}
 use Rattle.sampler_player.proofs.NoNan.{segment-numbers}
-use Rattle.sampler_event.specs.Rules.{firstBroken}
+use Rattle.laws.specs.Rules.{firstBroken}
 use Rattle.sampler_processor.specs.declared.Leg.{Leg}
 use Rattle.sampler_processor.specs.Numbers.{renderOrder}
 use Rattle.sampler_processor.specs.Block.{Running, Ended, frameOf, upTo, applied, isTaken, onward, block}

@@ -17,11 +17,11 @@ use Rattle.event_processor.specs.Queue.{pending, firstBefore, isDue}
 use Rattle.sampler_player.specs.declared.Setup.{Setup}
 use Rattle.sampler_player.specs.Clock.{clockAt}
 use Rattle.sampler_player.specs.Pieces.{Lent, segment}
-use Rattle.sampler_player.specs.Lending.{starting}
+use Rattle.sampler_player.specs.inner.Lending.{starting}
 use Rattle.sampler_processor.specs.declared.Leg.{Leg}
 use Rattle.sampler_processor.specs.Block.{Running, blockEnd, upTo, onward, block}
 use Rattle.sampler_processor.specs.Calls.{renderedTo, renderedBy}
-use Rattle.sampler_processor.specs.Stands.{renderedOn}
+use Rattle.sampler_processor.specs.inner.Stands.{renderedOn}
 
 pub none-due : (s : Setup) (b : Lent) (start : ℤ) (l : List Event) (q : Queue) (r : Running) → firstBefore (blockEnd s b start) l ≡ Nothing
     → block s b start l q r ≡ record { running = upTo s b start (b .block) r; queue = q }

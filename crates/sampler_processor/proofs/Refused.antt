@@ -8,7 +8,7 @@ use native.Mathlib.Omega.{arith}
 use lib.Dec.{eqb}
 use Rattle.sampler_event.specs.declared.Event.{Event}
 use Rattle.sampler_event.specs.declared.EventAnswer.{EventAnswer}
-use Rattle.sampler_event.specs.Rules.{firstBroken}
+use Rattle.laws.specs.Rules.{firstBroken}
 use Rattle.sampler_event.specs.Command.{commandAnswer}
 use Rattle.event_processor.specs.declared.QueueAnswer.{QueueAnswer}
 use Rattle.event_processor.specs.Queue.{queueFull, received}

@@ -10,19 +10,20 @@ use lib.Dec.{eqb, ltb}
 use lib.IntN.{ℤ}
 use lib.ListN.{length}
 use lib.Ieee.{Float}
-use Rattle.sampler_event.specs.Rules.{firstBroken}
+use Rattle.laws.specs.Rules.{firstBroken}
 use Rattle.event_processor.specs.Queue.{pending}
 use Rattle.sampler_player.specs.declared.Setup.{Setup}
 use Rattle.sampler_player.specs.Pieces.{Lent}
-use Rattle.sampler_player.specs.Lending.{Ready}
-use Rattle.sampler_player.specs.Sound.{kept}
+use Rattle.sampler_player.specs.inner.Lending.{Ready}
+use Rattle.sampler_player.specs.inner.Kept.{kept}
 use Rattle.sampler_player.proofs.Sound.{good-kept}
 use Rattle.sampler_processor.specs.declared.Leg.{Leg}
 use Rattle.sampler_processor.specs.Numbers.{recordingLong, fadeLong, renderOrder}
 use Rattle.sampler_processor.specs.Calls.{Rendered, renderedTo, renderedBy, render}
 use Rattle.sampler_processor.proofs.Admitted.{Admitted, admitted}
 use Rattle.sampler_processor.proofs.Legs.{parts, sound-sized}
-use Rattle.sampler_processor.proofs.Sizes.{neither, channels-in}
+use Rattle.laws.proofs.Tests.{neither}
+use Rattle.sampler_processor.proofs.Sizes.{channels-in}
 use Rattle.sampler_processor.proofs.NoFrames.{no-frames}
 
 module _ (l : Leg) (b : Lent) (out : List Float) (start : ℤ) where

@@ -6,12 +6,9 @@ use mathlib.Core.Bool.{Bool, true, false, _&&_, _||_, and-eq-true-iff}
 use native.Mathlib.Omega.{arith}
 use borrow.Author.Tests.{leb-true, ltb-false, eqb-true, not-false}
 use lib.Dec.{leb, eqb}
+use Rattle.laws.proofs.Tests.{neither}
 use Rattle.sampler_player.specs.declared.Setup.{Setup}
 use Rattle.sampler_processor.specs.Numbers.{rateBad, channelsBad, recordingLong, fadeLong, sizesBad}
-
-pub neither : (a b : Bool) → (a || b) ≡ false → (a ≡ false) × (b ≡ false)
-neither true b e = (e, cc)
-neither false b e = (refl, e)
 
 pub record Sized (s : Setup) : Type 0 where
   pub rate-low : 8000 ≤ s .rate

@@ -10,6 +10,7 @@ use lib.Dec.{T, leb, leb→le, le→leb, lit≤}
 use lib.IntN.{ℤ, pos, negsuc, negℤ, natAbs, _+ℤ_, _-ℤ_}
 use lib.Signed.{mag, leZ}
 use borrow.Author.Tests.{lt-ltb}
+use mir.Facts.{and-yes}
 use mir.Syntax.{w64}
 use mir.Val.{SFits}
 use Rattle.laws.proofs.Minus.{nat-minus, fits64}
@@ -17,7 +18,7 @@ use Rattle.timestamp.specs.Time.{timeOf, later}
 use Rattle.timestamp.specs.Answer.{made, plus, minus}
 use Rattle.timestamp.proofs.Time.{T-near}
 use Rattle.timestamp.proofs.Frames.{short}
-use Rattle.sampler_event.specs.Rules.{within}
+use Rattle.laws.specs.Rules.{within}
 use Rattle.sampler_event.proofs.Limits.{UpTo, within-up}
 use lib.Ieee.Nearest.{closest}
 
@@ -37,17 +38,9 @@ up-to m z t = within-up m z (true-is t)
 
 -- a delay is within the reach of an event
 pub delay-size : (z : ℤ) → T (within (negℤ (pos (2 ^ 20))) (pos (2 ^ 49)) z) → natAbs z ≤ 2 ^ 49
-delay-size (pos n) t = leb→le n (2 ^ 49) (second (leZ (negℤ (pos (2 ^ 20))) (pos n)) (leb n (2 ^ 49)) t)
+delay-size (pos n) t = leb→le n (2 ^ 49) (and-yes (leZ (negℤ (pos (2 ^ 20))) (pos n)) (leb n (2 ^ 49)) t .1)
+delay-size (negsuc n) t = le-trans (more n (leb→le n 1048575 (and-yes (leb n 1048575) true t .0))) (lit≤ tt)
   where
-    second : (a b : Bool) → T (a && b) → T b
-    second true b t = t
-    second false b t = absurd t
-delay-size (negsuc n) t = le-trans (more n (leb→le n 1048575 (first (leb n 1048575) true t))) (lit≤ tt)
-  where
-    first : (a b : Bool) → T (a && b) → T a
-    first true b t = tt
-    first false b t = absurd t
-
     more : (n : ℕ) → n ≤ 1048575 → suc n ≤ 1048576
     more n h = omega arith
 

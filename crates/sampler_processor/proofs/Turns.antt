@@ -15,10 +15,10 @@ use Rattle.laws.proofs.Tests.{yes}
 use Rattle.timestamp.specs.Time.{timeOf}
 use Rattle.sampler_event.specs.declared.Event.{Event}
 use Rattle.sampler_event.specs.declared.Kind.{Kind}
-use Rattle.sampler_event.specs.Rules.{within}
+use Rattle.laws.specs.Rules.{within}
 use Rattle.sampler_event.specs.Limits.{positionsBad, admissible}
 use Rattle.sampler_event.proofs.Limits.{UpTo}
-use Rattle.sampler_event.proofs.Admissible.{Admitted, admitted, time-up}
+use Rattle.sampler_event.proofs.Admissible.{passed, time-up}
 use Rattle.event_processor.specs.declared.Queue.{Queue}
 use Rattle.event_processor.specs.declared.First.{First}
 use Rattle.event_processor.specs.declared.First.the-variants.{Nothing, Due}
@@ -30,7 +30,7 @@ use Rattle.sampler_player.specs.declared.Player.{Player}
 use Rattle.sampler_player.specs.Clock.{clockAt}
 use Rattle.sampler_player.specs.Events.{apply}
 use Rattle.sampler_player.specs.Pieces.{Lent, Going, segment}
-use Rattle.sampler_player.specs.Sound.{kept}
+use Rattle.sampler_player.specs.inner.Kept.{kept}
 use Rattle.sampler_player.proofs.Kept.{stands, stands-within}
 use Rattle.sampler_player.proofs.Enough.{segment-kept}
 use Rattle.sampler_player.proofs.Applied.{apply-kept}
@@ -48,7 +48,7 @@ ordered-from R F lo [] h o = tt
 ordered-from R F lo (e ∷ es) h o =
     let a = and-eq-true-iff (admissible R F e) (each (admissible R F) es) .0 h in
     let b = and-eq-true-iff (leZ (pos lo) (e .time .bits)) (inOrderFrom (e .time .bits) es) .0 o in
-    let u = time-up e (admitted R F e (a .0) .time) in (
+    let u = time-up e (passed R F e (a .0) .time) in (
       natAbs (e .time .bits),
       u .is,
       leb-true lo (natAbs (e .time .bits)) (ap (λ (z : ℤ). leZ (pos lo) z) (sym (u .is)) ∙ b .0),
@@ -59,14 +59,14 @@ pub ordered-all : (R F : ℕ) (l : List Event) → each (admissible R F) l ≡ t
 ordered-all R F [] h o = tt
 ordered-all R F (e ∷ es) h o =
     let a = and-eq-true-iff (admissible R F e) (each (admissible R F) es) .0 h in
-    let u = time-up e (admitted R F e (a .0) .time) in
+    let u = time-up e (passed R F e (a .0) .time) in
     (natAbs (e .time .bits), u .is, Prim.Native.Nat.zero-le, ordered-from R F (natAbs (e .time .bits)) es (a .1) (ap (λ (z : ℤ). inOrderFrom z es) (sym (u .is)) ∙ o))
 
 pub all-fit : (s : Setup) (l : List Event) → each (admissible (s .rate) (s .fade)) l ≡ true → AllFit s l
 all-fit s [] h = tt
 all-fit s (e ∷ es) h =
     let a = and-eq-true-iff (admissible (s .rate) (s .fade) e) (each (admissible (s .rate) (s .fade)) es) .0 h in
-    let m = admitted (s .rate) (s .fade) e (a .0) in
+    let m = passed (s .rate) (s .fade) e (a .0) in
     ((m .places, m .loop), all-fit s es (a .1))
 
 pub length-pending : (q : Queue) → length (pending q) ≤ q .count
@@ -242,7 +242,7 @@ module _ (s : Setup) (b : Lent) (s0 : ℕ) (Z : Ended) (q : Queue) (r : Running)
       record {
         t = t;
         time = o .1;
-        early = subst (λ (i : ℤ). natAbs i ≤ 2 ^ 48) (o .1) (time-up x (admitted (s .rate) (s .fade) x (d .0) .time) .most);
+        early = subst (λ (i : ℤ). natAbs i ≤ 2 ^ 48) (o .1) (time-up x (passed (s .rate) (s .fade) x (d .0) .time) .most);
         now = now-up;
         ahead = at .0;
         inside = at .1;

@@ -7,7 +7,7 @@ use lib.IntN.{ℤ}
 use lib.Ieee.{Float}
 use Rattle.sampler_event.specs.declared.Event.{Event}
 use Rattle.sampler_event.specs.declared.EventAnswer.{EventAnswer}
-use Rattle.sampler_event.specs.Rules.{firstBroken}
+use Rattle.laws.specs.Rules.{firstBroken}
 use Rattle.sampler_event.specs.Command.{commandAnswer}
 use Rattle.event_processor.specs.declared.QueueAnswer.{QueueAnswer}
 use Rattle.event_processor.specs.Queue.{pending, emptyQueue, received}

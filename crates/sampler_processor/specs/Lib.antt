@@ -2,5 +2,5 @@
 pub mod Numbers
 pub mod Block
 pub mod Calls
--- Stands: a block's state in the code as the definition has it.
-pub mod Stands
+-- inner: what only the contracts of inner functions cite, and nobody has to believe.
+pub mod inner

@@ -7,7 +7,7 @@ use lib.IntN.{ℤ, pos}
 use lib.ListN.{length}
 use lib.Ieee.{Float, binary32, neg, le, ofBits}
 use Rattle.timestamp.specs.Answer.{inRate}
-use Rattle.sampler_event.specs.Rules.{within, Rule, rule}
+use Rattle.laws.specs.Rules.{within, Rule, rule}
 use Rattle.sampler_event.specs.Limits.{admissible}
 use Rattle.event_processor.specs.declared.Queue.{Queue}
 use Rattle.event_processor.specs.Queue.{pending, inOrder, each}

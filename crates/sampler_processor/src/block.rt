@@ -14,15 +14,16 @@ ghost use lib.IntN.{pos, negℤ, _+ℤ_, _-ℤ_};
 ghost use mir.Syntax.{w64};
 ghost use mir.Val.{SFits};
 ghost use Rattle.timestamp.specs.Time.{timeOf, later};
-ghost use Rattle.sampler_event.specs.Rules.{within};
+ghost use Rattle.laws.specs.Rules.{within};
 ghost use Rattle.sampler_event.specs.Limits.{positionsBad};
 ghost use Rattle.event_processor.specs.Queue.{pending, firstBefore, isDue};
-ghost use Rattle.sampler_player.specs.Sound.{kept};
+ghost use Rattle.sampler_player.specs.inner.Kept.{kept};
 ghost use Rattle.sampler_processor.specs.Numbers.{queueGood};
 ghost use Rattle.sampler_processor.specs.Block.{frameOf, upTo};
 ghost use Rattle.sampler_processor.specs.Block.{block as blockOf};
-ghost use Rattle.sampler_player.specs.Lending.{Ready, lending};
-ghost use Rattle.sampler_processor.specs.Stands.{running, appliedTo, leftOf};
+ghost use Rattle.sampler_player.specs.inner.Lending.{Ready};
+ghost use Rattle.sampler_player.specs.Pieces.{lending};
+ghost use Rattle.sampler_processor.specs.inner.Stands.{running, appliedTo, leftOf};
 
 // Where a block stands: what plays, the frames rendered, the current time, the pieces so far.
 pub struct Stand {

@@ -10,11 +10,11 @@ ghost use mathlib.Core.Bool.{_&&_, not};
 ghost use mathlib.Core.List.{[]};
 ghost use Prim.Native.Nat.{_≤_, _^_};
 ghost use lib.Dec.{ltb};
-ghost use Rattle.sampler_event.specs.Rules.{firstBroken};
+ghost use Rattle.laws.specs.Rules.{firstBroken};
 ghost use Rattle.sampler_voice.specs.Voices.{isStopped};
 ghost use Rattle.sampler_player.specs.Sound.{anyFar, farBad};
 ghost use Rattle.sampler_processor.specs.Numbers.{rateBad, channelsBad, recordingLong, recordingBad, fadeLong, tableBad, blockBad, entryBad, outputBad, startBad, sizesBad, sound, makeOrder, renderOrder};
-ghost use Rattle.sampler_player.specs.Lending.{lending};
+ghost use Rattle.sampler_player.specs.Pieces.{lending};
 
 // ---- the sizes that a leg keeps: 1, 2, 3, 4
 

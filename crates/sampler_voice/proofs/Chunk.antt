@@ -13,7 +13,7 @@ use borrow.Author.Tests.{lt-ltb}
 use Rattle.sampler_voice.specs.declared.Phase.{Phase}
 use Rattle.sampler_voice.specs.declared.Phase.the-variants.{Stopped, FadingIn, Playing, FadingOut}
 use Rattle.sampler_voice.specs.Voices.{settled, nextPhase, nextPosition, Heard, heard, sounded, frame, frames}
-use Rattle.sampler_voice.specs.Run.{later, run}
+use Rattle.sampler_voice.specs.inner.Run.{later, run}
 use Rattle.sampler_voice.proofs.Run.{later-zero, later-later}
 
 -- a phase goes on for k frames more of a fade of F

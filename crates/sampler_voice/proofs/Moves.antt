@@ -10,7 +10,8 @@ use lib.Ieee.{Float}
 use Rattle.sampler_voice.specs.declared.Phase.{Phase}
 use Rattle.sampler_voice.specs.declared.Phase.the-variants.{Stopped, FadingIn, Playing, FadingOut}
 use Rattle.sampler_voice.specs.declared.Voice.{Voice}
-use Rattle.sampler_voice.specs.Voices.{silent, isStopped, settled, nextPhase, nextPosition, Heard, lent, frame, frames, mix, Ahead}
+use Rattle.sampler_voice.specs.Voices.{silent, isStopped, settled, nextPhase, nextPosition, Heard, lent, frame, frames, mix}
+use Rattle.sampler_voice.specs.inner.Room.{Ahead}
 use Rattle.sampler_voice.proofs.Mix.{mix-voice}
 
 was : (F : ℕ) (ph : Phase) → isStopped (settled F ph) ≡ false → isStopped ph ≡ false

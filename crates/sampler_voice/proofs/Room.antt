@@ -12,7 +12,8 @@ use lib.Ieee.{Float, nan}
 use borrow.Author.Tests.{eqb-true}
 use Rattle.sampler_fade.specs.Entry.{none}
 use Rattle.sampler_voice.specs.declared.Pair.{Pair}
-use Rattle.sampler_voice.specs.Sound.{cleaned, Room, entry, channelsMixed, fetched, addAt, added}
+use Rattle.sampler_voice.specs.Sound.{cleaned, entry, channelsMixed, fetched, addAt, added}
+use Rattle.sampler_voice.specs.inner.Room.{Room}
 
 pub first : (two : Bool) (n j : ℕ) (xs : List Float) → Room two n xs → j < n → j < length xs
 first true n j xs h l = omega arith

@@ -16,7 +16,7 @@ use Rattle.sampler_voice.specs.declared.Phase.{Phase}
 use Rattle.sampler_voice.specs.declared.Phase.the-variants.{Stopped, FadingIn, Playing, FadingOut}
 use Rattle.sampler_voice.specs.Sound.{fetched, scaled, added}
 use Rattle.sampler_voice.specs.Voices.{isStopped, faded, sounded}
-use Rattle.sampler_voice.specs.Run.{later, run}
+use Rattle.sampler_voice.specs.inner.Run.{later, run}
 use Rattle.sampler_voice.proofs.Step.{adds}
 
 pub later-zero : (ph : Phase) → later 0 ph ≡ ph

@@ -15,7 +15,7 @@ use Rattle.sampler_voice.specs.declared.Phase.{Phase}
 use Rattle.sampler_voice.specs.declared.Phase.the-variants.{Stopped, FadingIn, Playing, FadingOut}
 use Rattle.sampler_voice.specs.Sound.{fetched, scaled, added}
 use Rattle.sampler_voice.specs.Voices.{isStopped, faded, sounded}
-use Rattle.sampler_voice.specs.Run.{later, fading, place, run}
+use Rattle.sampler_voice.specs.inner.Run.{later, fading, place, run}
 
 module _ (rec : List Float) (rn : ℕ) (fade : List Float) (n : ℕ) (two : Bool) where
   pub adds : (ph : Phase) (p j : ℕ) (out : List Float) → p < rn → isStopped ph ≡ false

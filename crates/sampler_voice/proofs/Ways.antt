@@ -13,7 +13,7 @@ use Rattle.sampler_voice.specs.declared.Voice.{Voice}
 use Rattle.sampler_voice.specs.declared.Phase.{Phase}
 use Rattle.sampler_voice.specs.declared.Phase.the-variants.{Stopped, FadingIn, Playing, FadingOut}
 use Rattle.sampler_voice.specs.Voices.{isStopped, settled, nextPhase, Heard, lent, heard, Mixed, lentAll, sounded, frame, frames, mix}
-use Rattle.sampler_voice.specs.Run.{later, run}
+use Rattle.sampler_voice.specs.inner.Run.{later, run}
 use Rattle.sampler_voice.proofs.Chunk.{movedBy, chunk, frames-add}
 
 is-stopped : (ph : Phase) → isStopped ph ≡ true → ph ≡ Stopped

@@ -1,4 +1,5 @@
--- What the contracts of `sampler_voice` cite. Sound: one frame's pair. Voices: what a voice is and does. Run: what the loops do, for inner functions only.
+-- What the contracts of `sampler_voice` cite. Sound: one frame's pair. Voices: what a voice is and does.
+-- inner: what only the contracts of inner functions cite, and nobody has to believe.
 pub mod Sound
 pub mod Voices
-pub mod Run
+pub mod inner

@@ -1,8 +1,8 @@
 -- One frame's sound: "The two channel values of a frame are fetched, scaled and added as one pair." "product and sum each rounded to f32". Definitions only.
-use Prim.Native.Nat.{ℕ, _+_, _*_, _≤_}
+use Prim.Native.Nat.{ℕ, _+_, _*_}
 use mathlib.Core.Bool.{Bool, true, false, _&&_, cond}
 use mathlib.Core.List.{List}
-use lib.ListN.{length, getD, set}
+use lib.ListN.{getD, set}
 use lib.Ieee.{Float, nan, binary32, add, mul, neg, le, ofBits}
 use Rattle.sampler_fade.specs.Entry.{none}
 use Rattle.sampler_voice.specs.declared.Pair.{Pair}
@@ -23,10 +23,6 @@ channelsMixed false = 1
 -- "planar: channel 0's frames, then channel 1's": the place of frame i of channel c, among `channels` of n frames each. The one way to an entry
 abbrev pub entry : ℕ → ℕ → ℕ → ℕ → ℕ
 entry channels n c i = c * n + i
-
--- as many channels of n frames as are mixed stand in xs
-abbrev pub Room : Bool → ℕ → List Float → Type 0
-Room two n xs = channelsMixed two * n ≤ length xs
 
 -- ---- the pair
 

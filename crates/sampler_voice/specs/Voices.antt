@@ -1,9 +1,9 @@
 -- "Voices, 0 then 1, per frame and channel": what a voice is, what starting, stopping and a frame make of it, and what is heard. Definitions only.
-use Prim.Native.Nat.{ℕ, zero, suc, _+_, _<_, _^_, max}
+use Prim.Native.Nat.{ℕ, zero, suc, _+_, max}
 use mathlib.Core.Bool.{Bool, true, false, cond}
 use mathlib.Core.List.{List, [], _∷_}
 use lib.Dec.{ltb, eqb}
-use lib.ListN.{length, getD}
+use lib.ListN.{length}
 use lib.Ieee.{Float}
 use Rattle.sampler_fade.specs.Entry.{fadeIn, fadeOut}
 use Rattle.sampler_voice.specs.declared.Pair.{Pair}
@@ -136,7 +136,3 @@ module _ (rec : List Float) (rn : ℕ) (fade : List Float) (n : ℕ) (two : Bool
   perFrame j (suc k) vs out =
       let m = perFrame j k vs out in
       mix (j + k) 1 (m .voices) (m .out)
-
--- k frames lie ahead of every voice: no position comes near the end of 64 bits
-abbrev pub Ahead : ℕ → List Voice → Type 0
-Ahead k vs = (i : ℕ) → getD vs i silent .position + k < 2 ^ 62

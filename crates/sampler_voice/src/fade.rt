@@ -4,7 +4,7 @@ ghost use mathlib.Core.Path.{_≡_};
 ghost use Prim.Native.Nat.{_<_, _≤_};
 ghost use lib.ListN.{length};
 ghost use Rattle.sampler_fade.specs.Entry.{cleanedFade, fadeAt, fadeIn, fadeOut};
-ghost use Rattle.sampler_voice.specs.Run.{place};
+ghost use Rattle.sampler_voice.specs.inner.Run.{place};
 
 fn clean_fade(x: f32) -> f32
     ensures { λ r. ⌜ r ≡ cleanedFade x ⌝ }

@@ -3,8 +3,10 @@
 // mixed. The output is n frames long; a piece of it is k frames from frame j on.
 ghost use mathlib.Core.Path.{_≡_};
 ghost use Prim.Native.Nat.{_+_, _<_, _≤_, _^_};
-ghost use Rattle.sampler_voice.specs.Sound.{Room, scaled};
-ghost use Rattle.sampler_voice.specs.Voices.{silent, isStopped, startedAt, endedVoice, lent, lentAll, frames, mix, Ahead};
+ghost use Rattle.sampler_voice.specs.Sound.{scaled};
+ghost use Rattle.sampler_voice.specs.inner.Room.{Room};
+ghost use Rattle.sampler_voice.specs.Voices.{silent, isStopped, startedAt, endedVoice, lent, lentAll, frames, mix};
+ghost use Rattle.sampler_voice.specs.inner.Room.{Ahead};
 
 mod fade;
 mod piece;

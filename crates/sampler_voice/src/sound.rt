@@ -3,7 +3,8 @@ ghost use mathlib.Core.Path.{_≡_};
 ghost use Prim.Native.Nat.{_<_};
 ghost use lib.ListN.{length, getD};
 ghost use lib.Ieee.{nan};
-ghost use Rattle.sampler_voice.specs.Sound.{cleaned, Room, fetched, addAt, added};
+ghost use Rattle.sampler_voice.specs.Sound.{cleaned, fetched, addAt, added};
+ghost use Rattle.sampler_voice.specs.inner.Room.{Room};
 use crate::Pair;
 
 fn clean(x: f32) -> f32

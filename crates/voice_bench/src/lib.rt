@@ -2,7 +2,7 @@
 ghost use mathlib.Core.Path.{_≡_};
 ghost use mathlib.Core.List.{[], _∷_};
 ghost use Prim.Native.Nat.{_+_, _<_, _≤_, _^_};
-ghost use Rattle.sampler_voice.specs.Sound.{Room};
+ghost use Rattle.sampler_voice.specs.inner.Room.{Room};
 ghost use Rattle.sampler_voice.specs.Voices.{lent, frames, mix};
 ghost use Rattle.voice_bench.specs.Numbered.{phaseOf, voiceOf};
 use sampler_voice::Phase;

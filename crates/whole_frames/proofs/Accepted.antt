@@ -12,7 +12,7 @@ use lib.ListN.{length, length-take}
 use lib.Signed.{ltZ, leZ}
 use lib.Ieee.{Float}
 use Rattle.sampler_event.specs.declared.Event.{Event}
-use Rattle.sampler_event.specs.Rules.{within, firstBroken}
+use Rattle.laws.specs.Rules.{within, firstBroken}
 use Rattle.sampler_event.specs.Limits.{admissible}
 use Rattle.sampler_event.proofs.Limits.{UpTo, within-up}
 use Rattle.event_processor.specs.Queue.{pending, inOrderFrom, inOrder, each}
@@ -21,7 +21,7 @@ use Rattle.sampler_player.specs.declared.Player.{Player}
 use Rattle.sampler_player.specs.Pieces.{Lent}
 use Rattle.sampler_player.specs.Sound.{activeGood, voicesGood, loopGood, playerGood, anyFar}
 use Rattle.sampler_player.proofs.Applied as Applied
-use Rattle.sampler_player.proofs.Kept.{other-of, neither-one}
+use Rattle.laws.proofs.Tests.{other-of, neither}
 use Rattle.sampler_processor.specs.declared.Leg.{Leg}
 use Rattle.sampler_processor.specs.Numbers.{renderOrder}
 use Rattle.sampler_processor.proofs.Sizes.{Sized, sized}
@@ -79,9 +79,9 @@ accepted l b out start h =
     let few = q .few in
     record {
       sizes = sized (l .setup) (p .sizes);
-      few-frames = ltb-false 4096 (b .block) (neither-one (ltb 4096 (b .block)) _ (r .block));
+      few-frames = ltb-false 4096 (b .block) (neither (ltb 4096 (b .block)) _ (r .block) .0);
       from = within-up (2 ^ 48) start (not-false (within (pos 0) (pos (2 ^ 48)) start) (r .begins));
-      position = neither-one (ltZ (pos (2 ^ 48)) (l .player .position .bits)) (anyFar (l .player .voices)) (r .near);
+      position = neither (ltZ (pos (2 ^ 48)) (l .player .position .bits)) (anyFar (l .player .voices)) (r .near) .0;
       loops = loops-of (l .setup) (l .player) (p .player);
       ordered = ordered (l .setup .rate) (l .setup .fade) (pending (l .queue)) (q .each-one) (q .ordered);
       few-events = omega (arith, n, few);

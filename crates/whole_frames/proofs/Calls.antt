@@ -11,7 +11,7 @@ use lib.ListN.{length, length-append}
 use lib.Ieee.{Float}
 use Rattle.sampler_event.specs.declared.Event.{Event}
 use Rattle.sampler_event.specs.declared.EventAnswer.{EventAnswer}
-use Rattle.sampler_event.specs.Rules.{firstBroken}
+use Rattle.laws.specs.Rules.{firstBroken}
 use Rattle.sampler_event.specs.Command.{commandAnswer}
 use Rattle.event_processor.specs.declared.Queue.{Queue}
 use Rattle.event_processor.specs.Queue.{pending, received}

@@ -10,7 +10,7 @@ use Rattle.timestamp.specs.declared.Timestamp.{Timestamp}
 use Rattle.sampler_event.specs.declared.Kind.{Kind}
 use Rattle.sampler_event.specs.declared.Kind.the-variants.{Start, StartImmediate, Stop, EnableLoop, CancelLoop, CancelAll}
 use Rattle.sampler_event.specs.declared.Event.{Event}
-use Rattle.sampler_event.specs.Rules.{within}
+use Rattle.laws.specs.Rules.{within}
 use Rattle.sampler_event.specs.Limits.{positionsBad, loopBad, admissible}
 use Rattle.event_processor.specs.declared.Queue.{Queue}
 use Rattle.event_processor.specs.Queue.{each}
@@ -24,7 +24,8 @@ use Rattle.sampler_player.specs.Pieces.{Lent, segment}
 use Rattle.sampler_player.specs.Sound.{pointsGood, loopGood}
 use Rattle.sampler_player.proofs.Applied.{admitted}
 use Rattle.sampler_player.proofs.Assign.{assign-leaves}
-use Rattle.sampler_player.proofs.Kept.{both, loops-opened}
+use Rattle.sampler_player.proofs.Kept.{loops-opened}
+use Rattle.laws.proofs.Tests.{both}
 use Rattle.sampler_processor.specs.Block.{Running, frameOf, upTo, applied}
 use Rattle.whole_frames.specs.Run.{towards, past, Comes, at, on}
 use Rattle.whole_frames.proofs.Lasting.{lasting}

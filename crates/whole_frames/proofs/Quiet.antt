@@ -10,7 +10,7 @@ use lib.IntN.{ℤ}
 use lib.ListN.{length, length-append}
 use lib.Ieee.{Float}
 use Rattle.sampler_event.specs.declared.Event.{Event}
-use Rattle.sampler_event.specs.Rules.{firstBroken}
+use Rattle.laws.specs.Rules.{firstBroken}
 use Rattle.event_processor.specs.declared.Queue.{Queue}
 use Rattle.event_processor.specs.Queue.{pending}
 use Rattle.sampler_player.specs.declared.Setup.{Setup}

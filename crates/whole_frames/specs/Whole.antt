@@ -6,7 +6,7 @@ use lib.IntN.{pos, natAbs, _-ℤ_, _*ℤ_, ℤ}
 use lib.Ieee.{Float}
 use Rattle.timestamp.specs.declared.Timestamp.{Timestamp}
 use Rattle.sampler_event.specs.declared.Event.{Event}
-use Rattle.sampler_event.specs.Rules.{firstBroken}
+use Rattle.laws.specs.Rules.{firstBroken}
 use Rattle.event_processor.specs.Queue.{pending}
 use Rattle.sampler_voice.specs.declared.Voice.{Voice}
 use Rattle.sampler_player.specs.declared.Active.{Active}

@@ -1,7 +1,7 @@
 -- `sampler_fade::table_48000` meets its contract, and the table keeps the rule.
 -- The idea: `bits_48000` gives the patterns and `fill` their floats; the test on the patterns is computed once. Assumes nothing.
 use borrow.Author.Needs.{needs}
-use Rattle.sampler_fade.proofs.Rule.{finite, made}
+use Rattle.sampler_fade.proofs.FadeRule.{finite, made}
 use Rattle.sampler_fade.proofs.Table.{passes48000}
 use Rattle.sampler_fade.proofs.table_48000.Statement.{statement}
 use Rattle.sampler_fade.proofs.table_48000.Tie as tie

@@ -7,7 +7,8 @@ use native.Mathlib.Omega.{arith}
 use denote.Ref.{now}
 use lib.ListN.{getD}
 use Rattle.sampler_voice.specs.declared.Voice.{Voice}
-use Rattle.sampler_voice.specs.Voices.{Mixed, mix, silent, Ahead}
+use Rattle.sampler_voice.specs.Voices.{Mixed, mix, silent}
+use Rattle.sampler_voice.specs.inner.Room.{Ahead}
 use Rattle.voice_bench.specs.Numbered.{voiceOf}
 use borrow.Author.Needs.{needs}
 use Rattle.voice_bench.proofs.voices_render.Statement.{statement}

@@ -5,7 +5,7 @@ use mathlib.Core.Path.{_≡_, refl, sym, _∙_}
 use mathlib.Core.Bool.{true, false}
 use lib.IntN.{pos}
 use borrow.Author.Tests.{not-true, not-false}
-use Rattle.sampler_event.specs.Rules.{within}
+use Rattle.laws.specs.Rules.{within}
 use Rattle.sampler_event.specs.Limits.{positionsBad, eventFault}
 use borrow.Author.Needs.{needs}
 use Rattle.sampler_event.proofs.Event.fault.Statement.{statement}

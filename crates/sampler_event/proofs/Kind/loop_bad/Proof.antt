@@ -2,7 +2,7 @@
 -- The idea: each arm is the definition's case; a loop's two points pass 11, since the kind does. Assumes nothing.
 use mathlib.Core.Path.{ap, sym, _∙_}
 use Rattle.sampler_event.specs.Limits.{placeBad, positionsBad}
-use Rattle.sampler_event.proofs.Limits.{neither}
+use Rattle.laws.proofs.Tests.{neither}
 use borrow.Author.Needs.{needs}
 use Rattle.sampler_event.proofs.Kind.loop_bad.Statement.{statement}
 use Rattle.sampler_event.proofs.Kind.loop_bad.Tie as tie

@@ -7,7 +7,7 @@ use mathlib.Core.Bool.{Bool, cond}
 use lib.IntN.{ℤ, pos, natAbs, _+ℤ_, _-ℤ_}
 use Rattle.sampler_player.specs.declared.Points.{Points}
 use Rattle.sampler_player.specs.Clock.{notNegative}
-use Rattle.sampler_player.specs.Stroke.{halfFrame, loopLength, due, reaching, looped, strokeAt, strokeOf}
+use Rattle.sampler_player.specs.inner.Stroke.{halfFrame, loopLength, due, reaching, looped, strokeAt, strokeOf}
 use Rattle.sampler_player.proofs.Sized.{difference-fits}
 use Rattle.sampler_player.proofs.Span.{Span, span, behind, behind-size, reached}
 use borrow.Author.Needs.{needs}

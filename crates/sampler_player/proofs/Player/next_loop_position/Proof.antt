@@ -9,7 +9,7 @@ use Rattle.timestamp.specs.Time.{earlier, loopEnd}
 use Rattle.timestamp.specs.Answer.{fitting}
 use Rattle.sampler_player.specs.Clock.{clockAt, notNegative}
 use Rattle.sampler_player.specs.Pieces.{endOf, nearer}
-use Rattle.sampler_player.specs.Stroke.{loopLength, lastStop}
+use Rattle.sampler_player.specs.inner.Stroke.{loopLength, lastStop}
 use Rattle.sampler_player.proofs.Sized.{difference-fits}
 use Rattle.sampler_player.proofs.Span.{Span, span, T-size}
 use Rattle.sampler_player.proofs.Ends.{loop-ends}

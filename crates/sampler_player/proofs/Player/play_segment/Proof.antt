@@ -9,7 +9,8 @@ use lib.ListN.{length}
 use Rattle.sampler_player.specs.declared.Player.{Player}
 use Rattle.sampler_player.specs.Clock.{clockAt}
 use Rattle.sampler_player.specs.Pieces.{Lent, Going, leftBy, interval, rendered, segment}
-use Rattle.sampler_player.specs.Lending.{lending, starting, Ready}
+use Rattle.sampler_player.specs.inner.Lending.{starting, Ready}
+use Rattle.sampler_player.specs.Pieces.{lending}
 use Rattle.sampler_player.proofs.Fuel.{Over, within-remaining, reach-start, reach-end}
 use Rattle.sampler_player.proofs.Passes.{pass-spent}
 use Rattle.sampler_player.proofs.Assigned.{kept-less}

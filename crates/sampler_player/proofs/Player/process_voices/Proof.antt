@@ -12,8 +12,9 @@ use lib.IntN.{ℤ, natAbs, _+ℤ_}
 use Rattle.timestamp.specs.Time.{timeOf}
 use Rattle.sampler_voice.specs.Voices.{Mixed, mix}
 use Rattle.sampler_player.specs.Pieces.{rendered}
-use Rattle.sampler_player.specs.Lending.{ending}
-use Rattle.sampler_player.proofs.Kept.{one-of, other-of, opened, stands}
+use Rattle.sampler_player.specs.inner.Lending.{ending}
+use Rattle.sampler_player.proofs.Kept.{opened, stands}
+use Rattle.laws.proofs.Tests.{one-of, other-of}
 use Rattle.sampler_player.proofs.Sized.{stands-size, sum-fits}
 use Rattle.sampler_player.proofs.Span.{T-size}
 use Rattle.sampler_player.proofs.Heard.{near, both-is, room}

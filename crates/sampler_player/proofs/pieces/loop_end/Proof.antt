@@ -5,7 +5,7 @@ use native.Mathlib.Omega.{arith}
 use mathlib.Core.Path.{_≡_, refl, sym, ap, _∙_, subst}
 use lib.IntN.{ℤ, pos, natAbs, _+ℤ_}
 use Rattle.timestamp.specs.Time.{earlier}
-use Rattle.sampler_player.specs.Stroke.{lastStop}
+use Rattle.sampler_player.specs.inner.Stroke.{lastStop}
 use Rattle.sampler_player.proofs.Sized.{sum-size, sum-fits}
 use Rattle.sampler_player.proofs.Ends.{sum-late, few-reach, many-reach}
 use borrow.Author.Needs.{needs}

@@ -7,10 +7,10 @@ use lib.IntN.{pos}
 use borrow.Author.Tests.{not-false}
 use denote.Ref.{now}
 use Rattle.laws.proofs.Tests.{yes}
-use Rattle.sampler_event.specs.Rules.{within}
+use Rattle.laws.specs.Rules.{within}
 use Rattle.sampler_event.proofs.Limits.{within-up}
 use Rattle.sampler_player.specs.Pieces.{Lent}
-use Rattle.sampler_player.specs.Lending.{lending}
+use Rattle.sampler_player.specs.Pieces.{lending}
 use Rattle.sampler_processor.proofs.Admitted.{Admitted, admitted}
 use Rattle.sampler_processor.proofs.Legs.{parts}
 use Rattle.sampler_processor.proofs.NoneDue.{rendered-on}

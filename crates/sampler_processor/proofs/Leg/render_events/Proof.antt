@@ -1,7 +1,7 @@
 -- `sampler_processor::Leg::render_events` meets its contract.
 -- The idea: `run_block`'s own, with the leg around it. Assumes nothing.
 use mathlib.Core.Path.{ap}
-use Rattle.sampler_processor.specs.Stands.{Left}
+use Rattle.sampler_processor.specs.inner.Stands.{Left}
 use borrow.Author.Needs.{needs}
 use Rattle.sampler_processor.proofs.Leg.render_events.Statement.{statement}
 use Rattle.sampler_processor.proofs.Leg.render_events.Tie as tie

@@ -6,7 +6,7 @@ use Prim.Native.Nat.{ℕ, _≤_, _+_}
 use native.Mathlib.Nat.{sub-zero}
 use native.Mathlib.Omega.{arith}
 use Rattle.sampler_player.specs.Pieces.{Segment}
-use Rattle.sampler_player.specs.Sound.{kept}
+use Rattle.sampler_player.specs.inner.Kept.{kept}
 use borrow.Author.Needs.{needs}
 use Rattle.sampler_processor.proofs.Leg.render_on.Statement.{statement}
 use Rattle.sampler_processor.proofs.Leg.render_on.Tie as tie

@@ -15,7 +15,7 @@ use borrow.Author.Needs.{needs}
 use Rattle.laws.proofs.Tests.{yes}
 use Rattle.timestamp.specs.Time.{timeOf}
 use Rattle.sampler_event.specs.declared.Event.{Event}
-use Rattle.sampler_event.specs.Rules.{within}
+use Rattle.laws.specs.Rules.{within}
 use Rattle.sampler_event.proofs.Limits.{UpTo}
 use Rattle.event_processor.specs.declared.Queue.{Queue}
 use Rattle.event_processor.specs.declared.Taken as Tk
@@ -26,8 +26,9 @@ use Rattle.sampler_player.specs.declared.Setup.{Setup}
 use Rattle.sampler_player.specs.Pieces.{Lent}
 use Rattle.sampler_processor.specs.declared.block.Stand.{Stand}
 use Rattle.sampler_processor.specs.Block.{Running, Ended, frameOf, blockEnd, upTo, applied, block as blockOf}
-use Rattle.sampler_player.specs.Lending.{Ready, lending}
-use Rattle.sampler_processor.specs.Stands.{running, appliedTo, leftOf}
+use Rattle.sampler_player.specs.inner.Lending.{Ready}
+use Rattle.sampler_player.specs.Pieces.{lending}
+use Rattle.sampler_processor.specs.inner.Stands.{running, appliedTo, leftOf}
 use Rattle.sampler_processor.proofs.Times.{up-to, up-within, up-more}
 use Rattle.sampler_processor.proofs.Turns.{Turn, Taken, turn-first, turn-due, turn-last, due-left, due-some, now-up}
 use Rattle.sampler_processor.proofs.block.run_block.Statement.{statement}

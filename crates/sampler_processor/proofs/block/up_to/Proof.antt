@@ -9,7 +9,8 @@ use Rattle.timestamp.specs.Time.{timeOf}
 use Rattle.sampler_player.specs.Clock.{clockAt}
 use Rattle.sampler_player.specs.Pieces.{Lent, Going, Segment, segment}
 use Rattle.sampler_processor.specs.Block.{Running, upTo}
-use Rattle.sampler_player.specs.Lending.{lending, starting}
+use Rattle.sampler_player.specs.inner.Lending.{starting}
+use Rattle.sampler_player.specs.Pieces.{lending}
 use Rattle.sampler_player.proofs.Counting.{segment-from}
 use Rattle.sampler_processor.proofs.Segments.{segment-pieces}
 use Rattle.sampler_processor.proofs.block.up_to.Statement.{statement}

@@ -7,10 +7,10 @@ use mathlib.Core.List.{List}
 use borrow.Author.Needs.{needs}
 use borrow.Author.Tests.{not-false}
 use lib.ListN.{drop}
-use Rattle.sampler_event.specs.Rules.{Rule, firstBroken}
+use Rattle.laws.specs.Rules.{Rule, firstBroken}
 use Rattle.sampler_processor.specs.Numbers.{renderOrder}
-use Rattle.sampler_player.specs.Lending.{lending}
-use Rattle.sampler_processor.proofs.Orders.{given, passed}
+use Rattle.sampler_player.specs.Pieces.{lending}
+use Rattle.laws.proofs.Rules.{given, passed}
 use Rattle.sampler_processor.proofs.Sizes.{channels-in}
 use Rattle.sampler_processor.proofs.Legs.{sound-sized}
 use Rattle.sampler_processor.proofs.numbers.render_number.Statement.{statement}

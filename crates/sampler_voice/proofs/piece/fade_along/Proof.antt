@@ -7,7 +7,7 @@ use lib.ListN.{length}
 use denote.Ref.{now}
 use Rattle.sampler_voice.specs.Sound.{fetched}
 use Rattle.sampler_voice.specs.Voices.{faded}
-use Rattle.sampler_voice.specs.Run.{later, fading, run}
+use Rattle.sampler_voice.specs.inner.Run.{later, fading, run}
 use Rattle.sampler_voice.proofs.Room as Room
 use Rattle.sampler_voice.proofs.Step.{step, placed, fading-sounds, fading-scales}
 use Rattle.sampler_voice.proofs.piece.fade_along.Statement.{statement}

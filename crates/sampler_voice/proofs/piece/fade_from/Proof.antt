@@ -4,7 +4,7 @@ use mathlib.Core.Bool.{true≢false}
 use mathlib.Core.Path.{_≡_, sym, _∙_}
 use native.Mathlib.Omega.{arith}
 use denote.Ref.{now}
-use Rattle.sampler_voice.specs.Run.{run}
+use Rattle.sampler_voice.specs.inner.Run.{run}
 use Rattle.sampler_voice.proofs.Room as Room
 use Rattle.sampler_voice.proofs.Run.{peel}
 use borrow.Author.Needs.{needs}

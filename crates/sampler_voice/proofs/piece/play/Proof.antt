@@ -7,7 +7,7 @@ use lib.ListN.{length}
 use denote.Ref.{now}
 use Rattle.sampler_voice.specs.declared.Phase.the-variants.{Playing}
 use Rattle.sampler_voice.specs.Voices.{faded}
-use Rattle.sampler_voice.specs.Run.{later, run}
+use Rattle.sampler_voice.specs.inner.Run.{later, run}
 use Rattle.sampler_voice.proofs.Room as Room
 use Rattle.sampler_voice.proofs.Step.{step}
 use Rattle.sampler_voice.proofs.piece.play.Statement.{statement}

@@ -3,7 +3,7 @@
 use mathlib.Core.Path.{_∙_}
 use native.Mathlib.Omega.{arith}
 use denote.Ref.{now}
-use Rattle.sampler_voice.specs.Run.{fading}
+use Rattle.sampler_voice.specs.inner.Run.{fading}
 use Rattle.sampler_voice.proofs.Run.{clip, nothing}
 use borrow.Author.Needs.{needs}
 use Rattle.sampler_voice.proofs.piece.render_fade.Statement.{statement}

@@ -7,7 +7,7 @@ use native.Mathlib.Omega.{arith}
 use denote.Ref.{now}
 use lib.ListN.{length, length-take}
 use lib.Ieee.{Float}
-use Rattle.sampler_voice.specs.Sound.{Room}
+use Rattle.sampler_voice.specs.inner.Room.{Room}
 use borrow.Author.Needs.{needs}
 use Rattle.voice_vectors.proofs.piece.render.Statement.{statement}
 use Rattle.voice_vectors.proofs.piece.render.Tie as tie

@@ -16,7 +16,7 @@ scaled x = num x * 2 ^ 149 / den x
 abbrev pub Within : ℕ → ℕ → ℕ → Type 0
 Within d n m = (n ≤ m + d) × (m ≤ n + d)
 
-pub record Rule (table : List Float) : Type 0 where
+pub record FadeRule (table : List Float) : Type 0 where
   -- "entry 0 is 0.0"
   pub first : entry table 0 ≡ none
   -- "entries rise strictly"

@@ -8,9 +8,6 @@ use Rattle.sampler_player.specs.declared.Setup.{Setup}
 use Rattle.sampler_player.specs.declared.Player.{Player}
 use Rattle.sampler_player.specs.Pieces.{Lent, Going, Segment}
 
-abbrev pub lending : List Float → List Float → ℕ → ℕ → Lent
-lending rec table channels block = record { recording = rec; table = table; channels = channels; block = block }
-
 -- a segment of `remaining` frames from frame `at` of the output on
 abbrev pub starting : Player → List Float → ℕ → ℕ → Going
 starting p out at remaining = record { player = p; out = out; at = at; remaining = remaining; pieces = 0 }

@@ -9,7 +9,7 @@ use lib.ListN.{length, getD, length-map, List·getD-map, List·getD-eq-default}
 use lib.Ieee.{Float, binary32, ofBits, lt}
 use lib.Ieee.Positive.{den, den-pos, value→cross}
 use Rattle.sampler_fade.specs.Entry.{one, tableOf, entry}
-use Rattle.sampler_fade.specs.Rule.{Rule, Within, scaled}
+use Rattle.sampler_fade.specs.FadeRule.{FadeRule, Within, scaled}
 use Rattle.sampler_fade.proofs.Patterns.{infinite, inUnits, value}
 use Rattle.sampler_fade.proofs.Order.{rises}
 use Rattle.sampler_fade.proofs.Test.{full, climbs, climb, under, within, mirrors, summed, passes, passed}
@@ -45,7 +45,7 @@ module _ (xs : List ℕ) (c : T (climbs 0 xs)) (m : T (mirrors xs (reverse xs)))
       subst (λ (n : ℕ). Within (2 ^ 125) n (2 ^ 149)) (sym (ap₂ (λ (a b : ℕ). a + b) (units i) (units (suc (length xs) - i))))
       (within (getD (0 ∷ xs) i full) (getD (0 ∷ xs) (suc (length xs) - i) full) (summed xs m i h))
 
-  from-zero : Rule (tableOf (0 ∷ xs))
+  from-zero : FadeRule (tableOf (0 ∷ xs))
   from-zero =
       record {
         first = refl;
@@ -54,11 +54,11 @@ module _ (xs : List ℕ) (c : T (climbs 0 xs)) (m : T (mirrors xs (reverse xs)))
         mirrored = λ i h. rw all (sum i (rw all at h));
       }
 
-pub rule : (bits : List ℕ) → T (passes bits) → Rule (tableOf bits)
+pub rule : (bits : List ℕ) → T (passes bits) → FadeRule (tableOf bits)
 rule [] t = absurd (unfold passes in t)
 rule (b ∷ xs) t =
     let p = passed b xs t in
-    subst (λ (n : ℕ). T (climbs n xs) → Rule (tableOf (n ∷ xs))) (sym (p .0)) (λ c. from-zero xs c (p .2)) (p .1)
+    subst (λ (n : ℕ). T (climbs n xs) → FadeRule (tableOf (n ∷ xs))) (sym (p .0)) (λ c. from-zero xs c (p .2)) (p .1)
 
 -- ---- for a function that reads the patterns into a table
 
@@ -69,7 +69,7 @@ below-infinite (b ∷ xs) t i = lt-of-le-of-lt (under 0 b xs (lit≤ tt) (passed
 pub finite : {bits read : List ℕ} → T (passes bits) → read ≡ bits → (i : ℕ) → getD read i 0 < infinite binary32
 finite t e = subst (λ (l : List ℕ). (i : ℕ) → getD l i 0 < infinite binary32) (sym e) (below-infinite _ t)
 
-pub made : {bits read : List ℕ} {table : List Float} → T (passes bits) → read ≡ bits → table ≡ tableOf read → (table ≡ tableOf bits) × Rule table
+pub made : {bits read : List ℕ} {table : List Float} → T (passes bits) → read ≡ bits → table ≡ tableOf read → (table ≡ tableOf bits) × FadeRule table
 made t e k =
     let all = k ∙ ap tableOf e in
-    (all, subst Rule (sym all) (rule _ t))
+    (all, subst FadeRule (sym all) (rule _ t))

@@ -1,11 +1,11 @@
--- An order of rules from its front: its first rule's number is given, or the call goes on to the rest.
--- The idea: the test that the code made is the rule's. Assumes nothing.
+-- An order of rules from its front: its first rule's number is given, or the call goes on to the rest; and what it says that no rule is broken.
+-- The idea: the test that the code made is the rule's, and a number above 0 is not the answer 0. Assumes nothing.
 use Prim.Native.Nat.{ℕ, suc}
 use mathlib.Core.Path.{_≡_, refl, sym, _∙_}
 use mathlib.Core.Bool.{Bool, true, false}
 use mathlib.Core.List.{List, _∷_}
 use native.Mathlib.Omega.{arith}
-use Rattle.sampler_event.specs.Rules.{Rule, rule, firstBroken}
+use Rattle.laws.specs.Rules.{Rule, rule, firstBroken}
 
 module _ (n : ℕ) (rs : List Rule) {b t : Bool} (e : t ≡ b) where
   pub given : t ≡ true → firstBroken (rule n b ∷ rs) ≡ n
