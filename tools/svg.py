@@ -16,9 +16,11 @@ class Page:
         self.parts.append(f'<rect x="{num(x)}" y="{num(y)}" width="{num(width)}" height="{num(height)}" '
                           f'fill="{fill}"{attributes(more)}/>')
 
-    def path(self, d, stroke, **more):
+    def path(self, d, stroke, title="", **more):
+        """With a title, which is shown where one points at the path."""
         more = {"fill": "none", "stroke": stroke, **more}
-        self.parts.append(f'<path d="{d}"{attributes(more)}/>')
+        close = f"><title>{escape(title)}</title></path>" if title else "/>"
+        self.parts.append(f'<path d="{d}"{attributes(more)}{close}')
 
     def dot(self, x, y, radius, **more):
         self.parts.append(f'<circle cx="{num(x)}" cy="{num(y)}" r="{num(radius)}"{attributes(more)}/>')

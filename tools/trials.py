@@ -9,9 +9,8 @@ import struct
 import sys
 from array import array
 from collections import namedtuple
-from pathlib import Path
 
-TOP = Path(__file__).resolve().parent.parent
+from tool import TOP, Fault, read_whole
 
 KINDS = {1: "Start", 2: "StartImmediate", 3: "Stop", 4: "EnableLoop", 5: "CancelLoop", 6: "CancelAll"}
 START, START_IMMEDIATE, STOP, ENABLE_LOOP, CANCEL_LOOP, CANCEL_ALL = KINDS
@@ -95,14 +94,14 @@ def f32_bytes(entries):
 # Reading a trial and its answers.
 
 class Bytes:
-    """Bytes read in order; where they end too early, says so and leaves."""
+    """Bytes read in order. Where they end too early, the fault names the part that is cut."""
 
     def __init__(self, data, name):
-        self.data, self.name, self.at = data, name, 0
+        self.data, self.name, self.at, self.part = data, name, 0, ""
 
     def take(self, count):
         if self.at + count > len(self.data):
-            sys.exit(f"{self.name} ends at byte {len(self.data)}, in the middle of the first trial")
+            raise Fault(f"{self.name} ends at byte {len(self.data)}, in {self.part}")
         self.at += count
         return self.data[self.at - count:self.at]
 
@@ -116,18 +115,23 @@ class Bytes:
         return entries
 
 
-def read_trial(data, name="the trial file"):
+def read_trial(data, name):
     """The first trial of a file."""
     source = Bytes(data, name)
+    source.part = "the head of the first trial"
     if source.take(4) != MARK:
-        sys.exit(f"{name} does not begin with TRL1")
+        raise Fault(f"{name} does not begin with TRL1")
     rate, frames, fade_frames, channels, out_channels, a, b, steps = source.numbers(HEAD.format)
-    recording, table = source.entries(a), source.entries(b)
+    source.part = "the recording"
+    recording = source.entries(a)
+    source.part = "the fade table"
+    table = source.entries(b)
     return Trial(rate, frames, fade_frames, channels, out_channels, recording, table,
-                 [read_step(source) for _ in range(steps)])
+                 [read_step(source, f"step {i + 1} of {steps}") for i in range(steps)])
 
 
-def read_step(source):
+def read_step(source, part):
+    source.part = part
     kind, = source.numbers("<B")
     if kind == 1:
         return Command(source.take(*source.numbers("<H")))
@@ -138,14 +142,24 @@ def read_step(source):
         return TakeLeg(source.take(LEG.size))
     if kind == 4:
         return Blocks(*source.numbers("<qHI"))
-    sys.exit(f"{source.name} has no step at byte {source.at - 1}")
+    raise Fault(f"{source.name} has {kind} at byte {source.at - 1}, for {part}: a step is 1, 2, 3 or 4")
 
 
-def read_answers(trial, data, name="the file of answers"):
+def read_answers(trial, data, name):
     """The number of making the leg, and an answer a step."""
     source = Bytes(data, name)
+    source.part = "the answer to making the leg"
     made, = source.numbers("<B")
-    return made, [read_answer(step, source) for step in trial.steps]
+    setup = (trial.rate, trial.channels, trial.frames, trial.fade_frames) if made == 0 else None
+    answers = []
+    for i, step in enumerate(trial.steps):
+        source.part = f"the answer to step {i + 1} of {len(trial.steps)}"
+        answer = read_answer(step, source)
+        setup = None if isinstance(step, TakeLeg) else setup
+        if setup not in (None, answer.leg[:4]):
+            raise Fault(f"{name} answers another trial: its leg before byte {source.at} is not this trial's")
+        answers.append(answer)
+    return made, answers
 
 
 def read_answer(step, source):
@@ -154,17 +168,21 @@ def read_answer(step, source):
     if isinstance(step, Block):
         pieces, = source.numbers("<Q")
         output = source.entries(len(step.held))
+        if number == 0 and not all(map(math.isfinite, output)):
+            raise Fault(f"{source.name} has a sample before byte {source.at}, in {source.part}, that is no number")
     elif isinstance(step, Blocks):
         blocks, pieces, _ = source.numbers("<QQQ")
-    return Answer(number, pieces, output, blocks, read_leg(source.take(LEG.size)))
+    return Answer(number, pieces, output, blocks, read_leg(source))
 
 
-def read_leg(data):
-    fields = LEG.unpack(data)
+def read_leg(source):
+    fields = LEG.unpack(source.take(LEG.size))
     rate, channels, frames, fade_frames = fields[:4]
     voices = (Voice(*fields[4:7]), Voice(*fields[7:10]))
     active, looped, loop_start, loop_end, position, start_position, completed, count = fields[10:18]
     events = [Event(*fields[18 + 4 * i:22 + 4 * i]) for i in range(min(count, 16))]  # a damaged leg may count more
+    if any(voice.phase >= len(PHASES) for voice in voices) or any(event.kind not in KINDS for event in events):
+        raise Fault(f"{source.name} has no leg at byte {source.at - LEG.size}, in {source.part}")
     loop = (loop_start, loop_end) if looped else None
     return Leg(rate, channels, frames, fade_frames, voices, active, loop, position, start_position, completed, events)
 
@@ -176,9 +194,11 @@ def fresh_leg(trial):
 
 def fade_table(rate):
     """The table of this rate as the crate `sampler_fade` has it, bit for bit."""
-    text = (TOP / "crates/sampler_fade/src/tables.rt").read_text()
-    rows = re.search(rf"BITS_{rate}: \[u32; \d+\] = \[(.*?)\]", text, re.S).group(1)
-    bits = [int(word.replace("_", ""), 16) for word in re.findall(r"0x[0-9a-f_]+", rows)]
+    path = TOP / "crates/sampler_fade/src/tables.rt"
+    found = re.search(rf"BITS_{rate}: \[u32; (\d+)\] = \[(.*?)\]", read_whole(path).decode(errors="replace"), re.S)
+    bits = [int(word.replace("_", ""), 16) for word in re.findall(r"0x[0-9a-f_]+", found[2])] if found else []
+    if not found or len(bits) != int(found[1]):
+        raise Fault(f"{path} has no whole table BITS_{rate}")
     return array("f", (struct.unpack("<f", struct.pack("<I", word))[0] for word in bits))
 
 
