@@ -158,6 +158,8 @@ def read_answers(trial, data, name):
         setup = None if isinstance(step, TakeLeg) else setup
         if setup not in (None, answer.leg[:4]):
             raise Fault(f"{name} answers another trial: its leg before byte {source.at} is not this trial's")
+        if isinstance(step, Block) and answer.number == 0 and len(step.held) != step.frames * trial.out_channels:
+            raise Fault(f"{name} answers another trial: step {i + 1} of this one is to be refused")
         answers.append(answer)
     return made, answers
 
