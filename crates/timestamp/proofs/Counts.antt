@@ -3,7 +3,7 @@
 use mathlib.Core.Path.{_≡_, refl, sym, ap, _∙_, subst}
 use mathlib.Core.Bool.{Bool, true, false, cond, not}
 use Prim.Native.Nat.{ℕ, zero, suc, _+_, _-_, _*_, _/_, _%_, _^_, _<_, min}
-use native.Mathlib.Nat.{le-of-lt, lt-of-lt-of-le, lt-of-le-of-lt, mul-one, mul-comm, mul-lt-mul-of-pos-right, div-lt-iff-lt-mul, add-div-right, div-div-eq-div-mul}
+use native.Mathlib.Nat.{le-of-lt, lt-of-lt-of-le, mul-one, mul-comm, mul-lt-mul-of-pos-right, div-lt-iff-lt-mul, add-div-right, div-div-eq-div-mul}
 use native.Mathlib.Omega.{arith}
 use lib.IntN.{ℤ, pos}
 use lib.Dec.{T, ltb, ltb→lt, lt→ltb, T-not, lit<}

@@ -1,6 +1,6 @@
 -- The fade length is the ceiling of R / 20: the least number of frames that 50 ms at rate R do not exceed.
 -- The idea: the quotient of R + 19. Assumes nothing.
-use Prim.Native.Nat.{ℕ, _+_, _*_, _/_, _≤_, _<_}
+use Prim.Native.Nat.{ℕ, _*_, _≤_}
 use native.Mathlib.Omega.{arith}
 use Rattle.timestamp.specs.Time.{fadeLength}
 

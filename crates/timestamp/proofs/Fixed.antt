@@ -1,23 +1,23 @@
 -- Seconds to units, as `from_seconds` does it: the product with 2 ^ 32 is exact, and where the number of units fits 64 signed bits.
 -- The idea: from 2 ^ 20 seconds on a binary64 is a whole number of units, so the ends of the range are exact. Assumes nothing.
 use mathlib.Core.Path.{_≡_, refl, sym, ap, _∙_, subst}
-use mathlib.Core.Bool.{Bool, true, false, cond, not, _&&_, _||_, true≢false}
+use mathlib.Core.Bool.{Bool, true, false, not, _&&_, _||_}
 use mathlib.Core.Logic.{_⊎_, inl, inr}
-use Prim.Native.Nat.{ℕ, zero, suc, _+_, _-_, _*_, _/_, _%_, _^_, _≤_, _<_}
-use native.Mathlib.Nat.{le-trans, le-of-eq, le-of-lt, lt-of-lt-of-le, lt-of-le-of-lt, lt-of-not-le, not-le-of-lt, lt-irrefl, zero-lt-suc, mul-one, one-mul, zero-mul, mul-comm, mul-assoc, mul-left-comm, mul-right-comm, mul-le-mul-right, mul-lt-mul-of-pos-right, mul-pos, lt-of-mul-lt-mul-right, le-of-mul-le-mul-right}
+use Prim.Native.Nat.{ℕ, zero, suc, _+_, _-_, _*_, _^_, _≤_, _<_}
+use native.Mathlib.Nat.{le-trans, le-of-eq, le-of-lt, lt-of-lt-of-le, lt-of-le-of-lt, lt-of-not-le, lt-irrefl, zero-lt-suc, mul-one, zero-mul, mul-assoc, mul-lt-mul-of-pos-right, mul-pos, lt-of-mul-lt-mul-right}
 use native.Mathlib.Omega.{arith}
 use lib.IntN.{ℤ, pos, negsuc, negℤ}
 use lib.Signed.{mag}
-use lib.Dec.{T, ltb, leb, eqb, ltb→lt, lt→ltb, nltb→le, leb→le, le→leb, nleb→lt, eqb→eq, eqb-refl, lit≤, lit<}
-use lib.Pow.{pow-add, pow-pos, pow-mono, pow-lt}
+use lib.Dec.{T, ltb, eqb, ltb→lt, lt→ltb, nltb→le, eqb→eq, eqb-refl, lit≤, lit<}
+use lib.Pow.{pow-add, pow-pos, pow-mono}
 use lib.Ieee.{Float, nan, inf, fin, binary64, up, down, round, mul, neg, lt, le, eq, ne, fits}
 use lib.Ieee.Digits.{back}
 use lib.Ieee.Fits.{up-pos, down-pos}
 use lib.Ieee.Exact.{HasValue}
 use lib.Ieee.Compare.{differs-from-itself}
 use lib.Ieee.Nearest.{closest, closest-same, closest-mono}
-use lib.Ieee.Positive.{num, den, positive, den-pos, value→cross, positive-of-value, first-pos, cross→le, le→cross}
-use borrow.Author.Tests.{le-ltb, lt-ltb, le-leb, lt-leb}
+use lib.Ieee.Positive.{num, den, positive, den-pos, value→cross, positive-of-value, first-pos, cross→le}
+use borrow.Author.Tests.{le-ltb, lt-ltb}
 use Rattle.timestamp.specs.Answer.{taken, refused, fromSeconds}
 use Rattle.laws.proofs.Near.{closest-whole}
 use Rattle.laws.proofs.Fit.{room-of, scaled-val}

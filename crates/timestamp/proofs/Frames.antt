@@ -1,26 +1,25 @@
--- S: a time as frames. Below 2 ^ 53 units it is one rounding of t * R / 2 ^ 32, and none where t * R is below 2 ^ 53; it is monotone.
--- Then what S makes of T. Assumes nothing.
-use mathlib.Core.Path.{_≡_, refl, sym, ap, _∙_, subst, subst₂}
-use Prim.Native.Nat.{ℕ, suc, _+_, _*_, _/_, _^_, _≤_, _<_, zero-le}
+-- S: a time as frames. Below 2 ^ 53 units it is one rounding of t * R / 2 ^ 32, and none where t * R is below 2 ^ 53; then what S makes of T.
+-- The idea: t is a float itself, and its product with R has one rounding. Assumes nothing.
+use mathlib.Core.Path.{_≡_, refl, sym, ap, _∙_, subst}
+use Prim.Native.Nat.{ℕ, suc, _+_, _*_, _/_, _^_, _≤_, _<_}
 use native.Mathlib.Nat.{le-of-lt, mul-le-mul, lt-of-lt-of-le, lt-of-le-of-lt, mul-assoc, mul-le-mul-left, mul-le-mul-right, lt-of-mul-lt-mul-right, div-eq-of-lt-le, zero-lt-suc}
 use native.Mathlib.Omega.{arith}
 use mathlib.Core.Bool.{Bool, true, false}
-use lib.Dec.{T, leb→le, lit≤}
+use lib.Dec.{T, lit≤}
 use mir.Syntax.{w64}
 use mir.Val.{SFits}
-use lib.IntN.{ℤ, pos, negsuc, natAbs}
-use lib.Signed.{leZ}
+use lib.IntN.{ℤ, pos, negsuc}
 use lib.Pow.{pow-pos, pow-mono}
 use lib.Ieee.{Float, binary64, low, round, mul, lt, ofInt, fin}
 use lib.Ieee.Exact.{HasValue}
-use lib.Ieee.Nearest.{closest, div-mono}
+use lib.Ieee.Nearest.{closest}
 use lib.Ieee.Scale.{grid, overflow}
 use Rattle.timestamp.specs.Time.{floorOf, roundOf, timeOf, seconds, framesOf}
 use Rattle.laws.proofs.Near.{Near}
-use Rattle.laws.proofs.Round.{Multiple, grid-le, grid-multiple, grid-mono, no-overflow, round-value}
+use Rattle.laws.proofs.Round.{Multiple, grid-le, grid-multiple, no-overflow, round-value}
 use Rattle.laws.proofs.Operations.{like-plus, mul-at, round-small}
 use Rattle.laws.proofs.Tests.{lt-of-value, lt-of-minus}
-use Rattle.timestamp.proofs.Values.{floorOf-at, roundOf-at, roundOf-neg}
+use Rattle.timestamp.proofs.Values.{floorOf-at, roundOf-at}
 use Rattle.laws.proofs.Error.{Rounded, Off, rounded-fraction, off-first}
 use Rattle.timestamp.proofs.Time.{whole-value, T-near}
 
@@ -36,9 +35,6 @@ S-once-neg R t r h = mul-at binary64 (round binary64 true (suc t) (2 ^ 32)) (ofI
 -- ---- S-exact: no rounding
 pub S-exact : (R t : ℕ) → R < 2 ^ 53 → t < 2 ^ 53 → t * R < 2 ^ 53 → HasValue (framesOf R (pos t)) false (t * R) (2 ^ 32)
 S-exact R t r h k = subst (λ (z : Float). HasValue z false (t * R) (2 ^ 32)) (sym (S-once R t r h)) (round-small binary64 false (t * R) 32 k (lit≤ tt))
-
-pub S-exact-neg : (R t : ℕ) → R < 2 ^ 53 → suc t < 2 ^ 53 → suc t * R < 2 ^ 53 → HasValue (framesOf R (negsuc t)) true (suc t * R) (2 ^ 32)
-S-exact-neg R t r h k = subst (λ (z : Float). HasValue z true (suc t * R) (2 ^ 32)) (sym (S-once-neg R t r h)) (round-small binary64 true (suc t * R) 32 k (lit≤ tt))
 
 pub S-floor : (R t : ℕ) → R < 2 ^ 53 → t < 2 ^ 53 → t * R < 2 ^ 53 → floorOf (framesOf R (pos t)) ≡ t * R / 2 ^ 32
 S-floor R t r h k = floorOf-at (framesOf R (pos t)) (t * R) (2 ^ 32) (pow-pos 32) (S-exact R t r h k)
@@ -76,10 +72,6 @@ framesN-le R t r h = grid-le binary64 (t * R) (2 ^ 32) 39 (pow-pos 32) (lit≤ t
 
     wide : (t : ℕ) → t < 2 ^ 53 → t * 2 ^ 18 < 2 ^ 39 * 2 ^ 32
     wide t h = omega arith
-
-pub framesN-mono : (R t u : ℕ) → t ≤ u → framesN R t ≤ framesN R u
-unfolding framesN
-framesN-mono R t u h = grid-mono binary64 (t * R) (2 ^ 32) (u * R) (2 ^ 32) (pow-pos 32) (pow-pos 32) (mul-le-mul-right (2 ^ 32) (mul-le-mul-right R h))
 
 -- one second, and one unit of time, in the format's smallest units; `step R` is a unit of time in frames
 abbrev pub L : ℕ

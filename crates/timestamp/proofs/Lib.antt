@@ -3,11 +3,9 @@
 pub mod Values
 pub mod Time
 pub mod Frames
--- Monotone: T and S are monotone. Loop: E in whole numbers (E-exact), and late beyond (E-late). Fade: the fade length. Table: m1 to m4.
-pub mod Monotone
+-- Loop: E in whole numbers (E-exact), and late beyond (E-late). Fade: the fade length is the ceiling that document 01 asks for.
 pub mod Loop
 pub mod Fade
-pub mod Table
 -- Drift: a sum of T against its frames. Event: an event's frame in a block. Interval: the frames of a piece in whole numbers.
 pub mod Drift
 pub mod Event

@@ -18,7 +18,7 @@ use borrow.Author.Tests.{lt-ltb}
 use Rattle.timestamp.specs.Answer.{fits64, fitting, inTime}
 use Rattle.timestamp.specs.Time.{signed, unitsOf, time, timeOf}
 use Rattle.laws.proofs.Near.{Near, closest-near, closest-beside}
-use Rattle.laws.proofs.Round.{Normal, ulp, half-ulp, drop-le, grid-le, no-overflow, grid-exact, grid-mono, round-value}
+use Rattle.laws.proofs.Round.{Normal, ulp, half-ulp, drop-le, grid-le, no-overflow, grid-exact, round-value}
 use Rattle.laws.proofs.Error.{Rounded, relative-or-zero}
 use Rattle.laws.proofs.Operations.{like-plus, div-at, round-small}
 use Rattle.timestamp.proofs.Values.{unitsOf-at}
@@ -100,18 +100,6 @@ time-value R y s a c r r' C h o =
     ap unitsOf (div-at binary64 y (ofInt binary64 (pos R)) s false a c R 1 C (zero-lt-suc 0) r h (whole-value R r') ∙ ap₂ (λ (t : Bool) (z : ℕ). round binary64 t z (R * c)) (like-plus s) (mul-one a))
     ∙ unitsOf-at (round binary64 s a (R * c)) s (grid binary64 a (R * c)) (2 ^ low binary64) (pow-pos 1074) (round-value binary64 s a (R * c) o)
 
-pub timeN-mono : (R a c b d : ℕ) → 0 < R → 0 < c → 0 < d → a * d ≤ b * c → timeN R a c ≤ timeN R b d
-unfolding timeN
-timeN-mono R a c b d r C D h =
-    let l = 2 ^ low binary64 in
-    let x = grid binary64 a (R * c) in
-    let y = grid binary64 b (R * d) in
-    let g : x ≤ y = grid-mono binary64 a (R * c) b (R * d) (mul-pos r C) (mul-pos r D) (scale R a c b d h) in
-    closest-mono (x * 2 ^ 32) l (y * 2 ^ 32) l (pow-pos 1074) (pow-pos 1074) (mul-le-mul-right l (mul-le-mul-right (2 ^ 32) g))
-  where
-    scale : (R a c b d : ℕ) → a * d ≤ b * c → a * (R * d) ≤ b * (R * c)
-    scale R a c b d h = let k : R * (a * d) ≤ R * (b * c) = mul-le-mul-left R h in omega arith
-
 -- whole frames below 2 ^ 53
 pub T-value : (R x : ℕ) → 0 < R → R < 2 ^ 53 → x < 2 ^ 53 → timeOf R x ≡ pos (timeN R x 1)
 unfolding timeOf
@@ -119,16 +107,6 @@ T-value R x r r' h = time-value R (ofInt binary64 (pos x)) false x 1 r r' (zero-
   where
     le-mul : (R : ℕ) → 0 < R → 2 ^ 53 ≤ 2 ^ 53 * (R * 1)
     le-mul R r = omega arith
-
--- whole frames of any size, where the count itself may be rounded on its way to a float
-pub T-any : (R x : ℕ) → 0 < R → R < 2 ^ 53 → x < 2 ^ 1000 → timeOf R x ≡ pos (timeN R (grid binary64 x 1) (2 ^ low binary64))
-unfolding timeOf ofInt
-T-any R x r r' h =
-    let g = grid binary64 x 1 in
-    let small : x < 2 ^ 1000 * 1 = lt-of-lt-of-le h (lit≤ tt) in
-    time-value R (round binary64 false x 1) false g (2 ^ 1074) r r' (pow-pos 1074) (round-value binary64 false x 1 (no-overflow binary64 x 1 1000 (zero-lt-suc 0) (lit≤ tt) (lit≤ tt) small))
-    (no-overflow binary64 g (R * 2 ^ 1074) 1001 (mul-pos r (pow-pos 1074)) (lit≤ tt) (lit≤ tt)
-    (lt-of-le-of-lt (grid-le binary64 x 1 1000 (zero-lt-suc 0) (lit≤ tt) small) (lt-of-lt-of-le (lit≤ tt) (mul-le-mul-left (2 ^ 1001) (mul-le-mul-right (2 ^ 1074) r)))))
 
 -- ---- T-wide: beyond 8 seconds T may be rounded twice, and is within half a unit and 2 ^ -53 of the time
 -- 2 ^ 21 * |t * R - x * 2 ^ 32| ≤ 2 ^ 20 * R + x

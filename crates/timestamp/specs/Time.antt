@@ -76,7 +76,7 @@ unfoldable pub loopEnd : ℕ → ℤ → ℤ → ℕ → ℤ
 unfolding time framesOf
 loopEnd R first length completed = time R (add binary64 (framesOf R first) (mul binary64 (framesOf R length) (ofInt binary64 (pos completed))))
 
--- "The fade length is the ceiling of R/20"
+-- "The fade length is the ceiling of R/20": the least n with R at most 20·n (proofs/Fade)
 abbrev pub fadeLength : ℕ → ℕ
 fadeLength R = (R + 19) / 20
 
