@@ -1,6 +1,6 @@
 -- Exactly when a pass with a loop catches up, in whole numbers: when the end is less than half a frame ahead, which is below the ceiling of 2^31 / R units.
 -- The idea: E is exact where the loops so far are within 2^49 units, and later than any block beyond. Assumes nothing.
-use Prim.Native.Nat.{ℕ, suc, _+_, _-_, _*_, _/_, _^_, _≤_, _<_, min}
+use Prim.Native.Nat.{ℕ, suc, _+_, _-_, _*_, _^_, _≤_, _<_, min}
 use native.Mathlib.Nat.{add-zero, le-trans, mul-le-mul-right, mul-le-mul-left, div-add-mod', mod-lt}
 use native.Mathlib.Omega.{arith}
 use mathlib.Core.Path.{_≡_, refl, sym, ap, _∙_, subst}

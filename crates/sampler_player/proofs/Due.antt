@@ -1,6 +1,6 @@
 -- When a pass with a loop catches up: exactly while the loop's length times the completed loops is below `due`; and up to which number of loops.
 -- The idea: position, start and loop points as natural numbers, from `kept`; then Catch. Assumes nothing.
-use Prim.Native.Nat.{ℕ, _+_, _-_, _*_, _/_, _^_, _≤_, _<_, min}
+use Prim.Native.Nat.{ℕ, zero, suc, _+_, _-_, _*_, _^_, _≤_, _<_, min}
 use native.Mathlib.Nat.{add-zero}
 use native.Mathlib.Omega.{arith}
 use mathlib.Core.Path.{_≡_, sym, ap, _∙_, subst}
@@ -24,16 +24,16 @@ use Rattle.sampler_player.specs.Pieces.{endOf, nearer, interval}
 use Rattle.sampler_player.specs.Sound.{pointsGood}
 use Rattle.sampler_player.specs.inner.Kept.{kept}
 use Rattle.sampler_player.proofs.Assign.{counted}
-use Rattle.sampler_player.proofs.Kept.{opened, closed, loops-opened, loops-closed, Stands, stands, Looped, looped}
+use Rattle.sampler_player.proofs.Kept.{opened, closed, Loops, loops-opened, loops-closed, Stands, stands, Looped, looped}
 use Rattle.sampler_player.proofs.Catch.{piece, catches, sounds}
-use Rattle.sampler_player.specs.inner.Stroke.{halfFrame, loopLength, due, caughtTo}
+use Rattle.sampler_player.specs.inner.Stroke.{halfFrame, loopLength, due}
 
 -- ---- the numbers of a player with a loop
 pub record Looping (s : Setup) (x : ℕ) (from end : Timestamp) (p : Player) : Type 0 where
   pub loop : Looped s from end
   pub begun : UpTo (2 ^ 42) (p .start .bits)
   pub here : Stands x (p .position .bits)
-  pub few : p .completed ≤ 2 ^ 27
+  pub tests : Loops s p
 
 pub looping : (s : Setup) (x : ℕ) (from end : Timestamp) (p : Player) → x ≤ 4096 → p .points ≡ Between from end → kept s x p ≡ true → Looping s x from end p
 looping s x from end p l q k =
@@ -43,7 +43,7 @@ looping s x from end p l q k =
       loop = looped s from end (subst (λ (y : Points). pointsGood s y ≡ true) q (i .points));
       begun = within-up (2 ^ 42) (p .start .bits) (i .start);
       here = stands x (p .position .bits) l (o .position);
-      few = i .few;
+      tests = i;
     }
 
 -- any sound number of loops may be completed
@@ -53,6 +53,11 @@ kept-counted s x c p h k =
     let l = loops-opened s p (o .loops) in
     closed s x (counted c p)
     (record { active = o .active; voices = o .voices; position = o .position; loops = loops-closed s (counted c p) (record { few = h; start = l .start; points = l .points }) })
+
+-- 63 frames are some units
+long-some : (len R : ℕ) → 63 * 2 ^ 32 ≤ len * R → 0 < len
+long-some zero R h = absurd (omega arith)
+long-some (suc n) R h = omega arith
 
 at : (z : ℤ) (n : ℕ) → z ≡ pos n → Minus z n 0
 at z n e = subst (λ (y : ℤ). Minus y n 0) (sym e) (add-zero n)
@@ -70,6 +75,9 @@ module _ (s : Setup) (x : ℕ) (from end : Timestamp) (p : Player) (i : Looping 
 
   pub length-is : loopLength from end ≡ i .loop .len
   length-is = ap natAbs length-pos
+
+  pub some-length : 0 < loopLength from end
+  some-length = subst (λ (n : ℕ). 0 < n) (sym length-is) (long-some (i .loop .len) (s .rate) (i .loop .long))
 
   pub due-is : Minus (due (s .rate) end p) (above (p .position .bits) + st + halfFrame (s .rate)) (below (p .position .bits) + (i .loop .len + i .loop .a) + 0)
   due-is =
@@ -103,7 +111,7 @@ module _ (s : Setup) (x : ℕ) (from end : Timestamp) (p : Player) (i : Looping 
         let k = i .here .high in
         interval-is l q
         ∙ catches s lo hi (p .position .bits) (above (p .position .bits)) (below (p .position .bits)) (i .loop .a) st (i .loop .len) (p .completed) l some-left few-left
-        (parts (p .position .bits)) (omega arith) (i .here .low) (i .begun .most) (i .loop .early) (i .few) (omega (arith, h, e))
+        (parts (p .position .bits)) (omega arith) (i .here .low) (i .begun .most) (i .loop .early) (i .tests .few) (omega (arith, h, e))
 
     from-due : T (not (ltZ (pos (loopLength from end * p .completed)) (due (s .rate) end p))) → 0 < interval (clockAt (s .rate)) s p l
     from-due t =
@@ -112,7 +120,7 @@ module _ (s : Setup) (x : ℕ) (from end : Timestamp) (p : Player) (i : Looping 
         let k = i .here .high in
         subst (λ (n : ℕ). 0 < n) (sym (interval-is l q))
         (sounds s lo hi (p .position .bits) (above (p .position .bits)) (below (p .position .bits)) (i .loop .a) st (i .loop .len) (p .completed) l some-left few-left
-        (parts (p .position .bits)) (omega arith) (i .here .low) (i .begun .most) (i .loop .early) (i .few) (omega (arith, h, e)))
+        (parts (p .position .bits)) (omega arith) (i .here .low) (i .begun .most) (i .loop .early) (i .tests .few) (omega (arith, h, e)))
 
     pub caught-when : eqb (interval (clockAt (s .rate)) s p l) 0 ≡ ltZ (pos (loopLength from end * p .completed)) (due (s .rate) end p)
     caught-when = go (ltZ (pos (loopLength from end * p .completed)) (due (s .rate) end p)) below-due from-due

@@ -1,16 +1,16 @@
 -- E up to the last stop: in whole numbers it is first + length * completed, and a stop of a block sees no more of it.
 -- The idea: E is exact up to 2 ^ 49 units, and beyond both are later than the last stop (E-exact, E-late); a block's stops come before that. Assumes nothing.
-use Prim.Native.Nat.{ℕ, suc, _+_, _-_, _*_, _/_, _^_, _≤_, _<_}
-use native.Mathlib.Nat.{le-trans, add-zero, mul-comm, mul-le-mul-left, mul-le-mul-right, mul-div-le, lt-div-mul-add}
+use Prim.Native.Nat.{ℕ, _+_, _-_, _*_, _^_, _≤_, _<_}
+use native.Mathlib.Nat.{le-trans, add-zero}
 use native.Mathlib.Omega.{arith}
-use mathlib.Core.Path.{_≡_, refl, sym, ap, _∙_, subst}
+use mathlib.Core.Path.{_≡_, refl, sym, ap, _∙_}
 use mathlib.Core.Bool.{Bool, true, false, not, cond}
 use mathlib.Core.Option.{Option, none, some}
 use borrow.Author.Tests.{leb-true, leb-false, lt-ltb}
 use lib.Dec.{T, leb, ltb, lit≤}
 use lib.IntN.{ℤ, pos, natAbs, _+ℤ_}
 use lib.Signed.{mag, ltZ}
-use Rattle.laws.proofs.Tests.{yes, no}
+use Rattle.laws.proofs.Tests.{yes}
 use Rattle.laws.proofs.Minus.{Minus, above, below, parts, plus-minus, ltZ-minus, nltZ-minus}
 use Rattle.timestamp.specs.Time.{earlier, loopEnd}
 use Rattle.timestamp.specs.Answer.{fitting}
@@ -41,16 +41,6 @@ pub sum-late : (first : ℤ) (n : ℕ) → natAbs first ≤ 2 ^ 42 → 2 ^ 49 < 
 sum-late first n h k =
     let u = below-size first in
     late (first +ℤ pos n) (above first + n) (below first + 0) (plus-minus first (pos n) (above first) (below first) n 0 (parts first) (add-zero n)) (omega arith)
-
--- a product by its quotient
-pub few-reach : (L c n : ℕ) → c ≤ n / L → L * c ≤ n
-few-reach L c n h = le-trans (mul-le-mul-left L h) (mul-div-le n L)
-
-pub many-reach : (L c n : ℕ) → 0 < L → n / L < c → n < L * c
-many-reach L c n p h =
-    let a = lt-div-mul-add {a = n} {b = L} p in
-    let b : suc (n / L) * L ≤ c * L = mul-le-mul-right L h in
-    subst (λ (y : ℕ). n < y) (mul-comm c L) (omega (arith, a, b))
 
 -- a stop before the last: the earlier of it and E, and of it and E up to the last
 module _ (t : ℤ) (soon : ltZ t lastStop ≡ true) where

@@ -35,10 +35,8 @@ module _ (s : Setup) (b : Lent) (lo : 8000 ≤ s .rate) (hi : s .rate ≤ 96000)
     caught-sound r g e i z Absent q = tt
     caught-sound r g e i z (Between from end) q =
         let f = i .few in
-        record {
-          is = back-kept s b lo hi (g .remaining + X) from end (g .player) f q (caught-few s b lo hi (g .remaining + X) (suc r) from end (g .player) f (omega arith) (omega arith) (i .is) q z) (i .is);
-          few = f;
-        }
+        let c = caught-few s b lo hi (g .remaining + X) (suc r) from end (g .player) f (omega arith) (omega arith) (i .is) q z in
+        record { is = back-kept s b lo hi (g .remaining + X) from end (g .player) f q (omega (arith, c)) (i .is); few = f }
 
     piece-sound : (n : ℕ) (g : Going) → suc n ≤ g .remaining → Sound s X g → Sound s X (rendered (clockAt (s .rate)) s b (suc n) g)
     unfolding rendered

@@ -3,19 +3,23 @@
 pub mod Assign
 pub mod Fuel
 pub mod Passes
--- Kept: the invariant taken apart and put together. Catch, Due, Target: when a pass catches up, and up to which number of loops. Stroke: all catch-ups at one stroke.
+-- Kept: the invariant taken apart and put together. Catch, Due, Target: when a pass catches up, and up to which number of loops (Reaching: quotients).
+-- Stroke: all catch-ups at one stroke.
 pub mod Kept
 pub mod Catch
+pub mod Reaching
 pub mod Due
 pub mod Target
 pub mod Stroke
 -- Held, Voice, Voices: the active voice and the voices' limits. Assigned: Stop and Assign keep the invariant. Pass: one pass does. Enough: a segment does, and ends.
+-- CatchUps: "Passes that only catch up stay below 2^27".
 pub mod Held
 pub mod Voice
 pub mod Voices
 pub mod Assigned
 pub mod Pass
 pub mod Enough
+pub mod CatchUps
 -- NoNan: no entry becomes a NaN. Trace: what a segment reports. Applied: events keep the invariant. Sound: from number 14 to the invariant and back.
 pub mod NoNan
 pub mod Trace

@@ -1,7 +1,7 @@
 -- One pass keeps `kept`: a catch-up, all catch-ups at one stroke, and a piece, which takes its frames off those to come.
 -- The idea: T(n) is at most n times 2^20 units; a catch-up is below `caughtTo`, so below 2^27. Assumes nothing.
 use Prim.Native.Nat.{ℕ, _+_, _*_, _^_, _≤_, _<_}
-use native.Mathlib.Nat.{add-zero, mul-le-mul-right, mul-le-mul-left}
+use native.Mathlib.Nat.{add-zero, le-of-lt, mul-le-mul-right, mul-le-mul-left}
 use native.Mathlib.Omega.{arith}
 use mathlib.Core.Path.{_≡_, sym, _∙_, subst}
 use mathlib.Core.Bool.{Bool, true, false, not}
@@ -47,7 +47,7 @@ brief R n t lo p h = go (leb t (n * 2 ^ 20)) (leb→le t (n * 2 ^ 20)) (nleb→l
 module _ (s : Setup) (b : Lent) (lo : 8000 ≤ s .rate) (hi : s .rate ≤ 96000) where
   -- ---- a pass that catches up
   pub caught-few : (x l : ℕ) (from end : Timestamp) (p : Player) → x ≤ 4096 → 0 < l → l ≤ x → kept s x p ≡ true → p .points ≡ Between from end
-      → interval (clockAt (s .rate)) s p l ≡ 0 → p .completed < 2 ^ 27
+      → interval (clockAt (s .rate)) s p l ≡ 0 → p .completed + 1 < 2 ^ 27
   caught-few x l from end p m a h k q z =
       let t : ltZ (pos (loopLength from end * p .completed)) (due (s .rate) end p) ≡ true =
       sym (catches-when s lo hi x m from end p l k a h q) ∙ eq-eqb (interval (clockAt (s .rate)) s p l) 0 z in
@@ -73,7 +73,7 @@ module _ (s : Setup) (b : Lent) (lo : 8000 ≤ s .rate) (hi : s .rate ≤ 96000)
       let e = i .loop .early in
       let c = caughtTo (s .rate) from end p in
       assign-kept s x (from .bits) (i .loop .a) 0 (counted c p) hi m (subst (λ (z : ℤ). Minus z (i .loop .a) 0) (sym (i .loop .start)) (add-zero (i .loop .a)))
-      (omega arith) (omega arith) (kept-counted s x c p (stroke-few s lo hi x m from end p k q t) k)
+      (omega arith) (omega arith) (kept-counted s x c p (le-of-lt (stroke-few s lo hi x m from end p k q t)) k)
 
   -- ---- a pass that renders n frames
   module _ (table : length (b .table) ≡ s .fade) where

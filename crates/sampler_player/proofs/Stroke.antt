@@ -1,7 +1,7 @@
 -- The one-stroke catch-up: the passes in a row that only catch up are one Assign at the loop's start, with all their loops completed; then a pass sounds.
 -- The idea: Assign at one place twice is once, and an interval does not look at the voices. Assumes nothing.
 use Prim.Native.Nat.{ℕ, zero, suc, _+_, _-_, _*_, _^_, _≤_, _<_, min}
-use native.Mathlib.Nat.{add-zero, le-trans}
+use native.Mathlib.Nat.{add-zero, le-trans, le-of-lt}
 use native.Mathlib.Omega.{arith}
 use mathlib.Core.Path.{_≡_, refl, sym, ap, _∙_, subst}
 use mathlib.Core.Bool.{true, false}
@@ -47,6 +47,9 @@ module _ (k : Clock) (s : Setup) where
   assign-interval u p r = assign-leaves (λ q. interval k s q r) (interval-apart r) k u p
 
 -- ---- passes that catch up, at any clock
+one-on : (c j : ℕ) → c + 1 + j ≡ c + suc j
+one-on c j = omega arith
+
 module _ (k : Clock) (s : Setup) (b : Lent) (from end : Timestamp) (r : ℕ) where
   pub pass-caught : (g : Going) → g .remaining ≡ suc r → g .player .points ≡ Between from end → interval k s (g .player) (suc r) ≡ 0
       → pass k s b (g .remaining) g ≡ some (going (loopBack k s from (g .player)) g)
@@ -75,9 +78,6 @@ module _ (k : Clock) (s : Setup) (b : Lent) (from end : Timestamp) (r : ℕ) whe
       ∙ many n (going (loopBack k s from (g .player)) g) (counted (p .completed + 1) p) (ap (loopBack k s from) e ∙ more p) q l
       (λ j h. ap (λ (c : ℕ). interval k s (counted c p) (suc r)) (one-on (p .completed) j) ∙ f (suc j) (omega arith))
       ∙ ap (λ (c : ℕ). going (assign k (from .bits) (counted c p)) g) (one-on (p .completed) n)
-    where
-      one-on : (c j : ℕ) → c + 1 + j ≡ c + suc j
-      one-on c j = omega arith
 
   -- m in a row
   pub row : (m : ℕ) (g : Going) → 0 < m → g .player .points ≡ Between from end → g .remaining ≡ suc r
@@ -91,9 +91,6 @@ module _ (k : Clock) (s : Setup) (b : Lent) (from end : Timestamp) (r : ℕ) whe
       ∙ many n (going (loopBack k s from (g .player)) g) (counted (g .player .completed + 1) (g .player)) refl q l
       (λ j h. ap (λ (c : ℕ). interval k s (counted c (g .player)) (suc r)) (one-on (g .player .completed) j) ∙ f (suc j) (omega arith))
       ∙ ap (λ (c : ℕ). going (assign k (from .bits) (counted c (g .player))) g) (one-on (g .player .completed) n)
-    where
-      one-on : (c j : ℕ) → c + 1 + j ≡ c + suc j
-      one-on c j = omega arith
 
 -- ---- at a rate, under `kept`
 
@@ -108,7 +105,7 @@ module _ (s : Setup) (lo : 8000 ≤ s .rate) (hi : s .rate ≤ 96000) (x : ℕ) 
   catches-when p l k a h q = caught-when s x from end p (looping s x from end p few q k) lo hi l a (le-trans h few) q
 
   pub stroke-few : (p : Player) → kept s x p ≡ true → p .points ≡ Between from end → ltZ (pos (loopLength from end * p .completed)) (due (s .rate) end p) ≡ true
-      → caughtTo (s .rate) from end p ≤ 2 ^ 27
+      → caughtTo (s .rate) from end p < 2 ^ 27
   stroke-few p k q t = target-few s lo hi x from end p (looping s x from end p few q k) t
 
   pub stroke-more : (p : Player) → kept s x p ≡ true → p .points ≡ Between from end → ltZ (pos (loopLength from end * p .completed)) (due (s .rate) end p) ≡ true
@@ -121,7 +118,7 @@ module _ (s : Setup) (lo : 8000 ≤ s .rate) (hi : s .rate ≤ 96000) (x : ℕ) 
   stroke-sounds p l k a h q t =
       let c = caughtTo (s .rate) from end p in
       let e : eqb (interval (clockAt (s .rate)) s (counted c p) l) 0 ≡ false =
-      catches-when (counted c p) l (kept-counted s x c p (stroke-few p k q t) k) a h q ∙ target-there s lo hi x from end p (looping s x from end p few q k) t in
+      catches-when (counted c p) l (kept-counted s x c p (le-of-lt (stroke-few p k q t)) k) a h q ∙ target-there s lo hi x from end p (looping s x from end p few q k) t in
       subst (λ (n : ℕ). 0 < n) (sym (assign-interval (clockAt (s .rate)) s (from .bits) (counted c p) l)) (some-frames (interval (clockAt (s .rate)) s (counted c p) l) (eqb-false (interval (clockAt (s .rate)) s (counted c p) l) 0 e))
     where
       some-frames : (n : ℕ) → (n ≡ 0 → ⊥) → 0 < n

@@ -112,6 +112,15 @@ abbrev pub andThen : (Going → List ℕ) → Going → Option Going → List �
 andThen go g none = []
 andThen go g (some h) = pieceOf (g .remaining - h .remaining) (go h)
 
+-- a pass that renders no frame only catches up: one more of those
+abbrev pub idleOf : ℕ → ℕ → ℕ
+idleOf zero c = suc c
+idleOf (suc n) c = c
+
+abbrev pub countThen : (Going → ℕ) → Going → Option Going → ℕ
+countThen go g none = 0
+countThen go g (some h) = idleOf (g .remaining - h .remaining) (go h)
+
 module _ (k : Clock) (s : Setup) (b : Lent) where
   -- "Otherwise render, position += T(piece), pieces + 1"
   unfoldable pub rendered : ℕ → Going → Going
@@ -147,7 +156,7 @@ module _ (k : Clock) (s : Setup) (b : Lent) where
   passes zero g = g
   passes (suc f) g = after (λ h. passes f h) g (pass (g .remaining) g)
 
-  -- A segment. Each pass renders one frame or more, or catches up, and those "stay below 2^27": the bound never ends it (proofs/Enough)
+  -- A segment. Each pass renders one frame or more, or catches up, and those "stay below 2^27" (`catchUps`, proofs/CatchUps): the bound never ends it (proofs/Enough)
   unfoldable pub segment : Going → Going
   segment g = passes (g .remaining + (2 ^ 27 + 1)) g
 
@@ -155,3 +164,8 @@ module _ (k : Clock) (s : Setup) (b : Lent) where
   unfoldable pub renderings : ℕ → Going → List ℕ
   renderings zero g = []
   renderings (suc f) g = andThen (λ h. renderings f h) g (pass (g .remaining) g)
+
+  -- how many passes render nothing: "Passes that only catch up stay below 2^27", which proofs/CatchUps shows
+  unfoldable pub catchUps : ℕ → Going → ℕ
+  catchUps zero g = 0
+  catchUps (suc f) g = countThen (λ h. catchUps f h) g (pass (g .remaining) g)

@@ -1,6 +1,6 @@
 -- `sampler_player::Player::assign_voice` meets its contract.
 -- The idea: the code's test is the definition's. Assumes nothing.
-use mathlib.Core.Path.{_≡_, refl, sym, ap, _∙_}
+use mathlib.Core.Path.{refl, sym, ap, _∙_}
 use Rattle.sampler_player.specs.declared.Player.{Player}
 use Rattle.sampler_player.specs.Assign.{begin, assignAt}
 use borrow.Author.Needs.{needs}

@@ -1,6 +1,6 @@
 -- `sampler_player::Player::catch_up` meets its contract.
 -- The idea: fewer loops than the code counts are exactly those that do not reach `due` (`behind`, `reached`). Assumes nothing.
-use Prim.Native.Nat.{ℕ, _+_, _*_, _^_, _≤_, _<_}
+use Prim.Native.Nat.{ℕ, _+_, _^_, _≤_, _<_}
 use native.Mathlib.Omega.{arith}
 use mathlib.Core.Path.{_≡_, refl, sym, ap, _∙_, subst}
 use mathlib.Core.Bool.{Bool, cond}
@@ -9,7 +9,8 @@ use Rattle.sampler_player.specs.declared.Points.{Points}
 use Rattle.sampler_player.specs.Clock.{notNegative}
 use Rattle.sampler_player.specs.inner.Stroke.{halfFrame, loopLength, due, reaching, looped, strokeAt, strokeOf}
 use Rattle.sampler_player.proofs.Sized.{difference-fits}
-use Rattle.sampler_player.proofs.Span.{Span, span, behind, behind-size, reached}
+use Rattle.sampler_player.proofs.Span.{Span, span}
+use Rattle.sampler_player.proofs.Reaching.{behind, behind-size, reached}
 use borrow.Author.Needs.{needs}
 use Rattle.sampler_player.proofs.Player.catch_up.Statement.{statement}
 use Rattle.sampler_player.proofs.Player.catch_up.Tie as tie
@@ -20,7 +21,7 @@ enum-told c = search needs
 enum-known-points : tie.Need-enum-known-points
 enum-known-points c = search needs
 
-loop : (c : tie.After-known-told) → Span (c .before .points .given .0 .0) (c .before .points .given .0 .1 .0) (c .before .before .before .args .self)
+loop : (c : tie.After-known-told) → Span (c .before .before .before .args .setup) (c .before .points .given .0 .0) (c .before .points .given .0 .1 .0) (c .before .before .before .args .self)
 loop c = span (c .before .before .before .args .setup) (c .before .points .given .0 .0) (c .before .points .given .0 .1 .0) (c .before .before .before .args .self) (c .before .before .before .pre .1 .1) (c .before .points .given .1)
 
 length-is : (c : tie.After-units) → c .units .result ≡ loopLength (c .before .before .before .before .points .given .0 .0) (c .before .before .before .before .points .given .0 .1 .0)
@@ -37,7 +38,7 @@ due-is c =
 difference-requires : tie.Need-difference-requires
 difference-requires c κs = let i = loop c in
     let a = i .end-size in
-    let b = i .start-size in
+    let b = i .numbers .begun .most in
     difference-fits (c .before .points .given .0 .1 .0 .bits) (c .before .before .before .args .self .start .bits) (omega (arith, a)) (omega (arith, b))
 
 difference-requires-2 : tie.Need-difference-requires-2

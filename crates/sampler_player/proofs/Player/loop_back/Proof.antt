@@ -1,6 +1,6 @@
 -- `sampler_player::Player::loop_back` meets its contract.
 -- The idea: Assign at the loop start is Assign at its frame. Assumes nothing.
-use mathlib.Core.Path.{_≡_, refl, _∙_}
+use mathlib.Core.Path.{refl, _∙_}
 use borrow.Author.Needs.{needs}
 use Rattle.sampler_player.proofs.Player.loop_back.Statement.{statement}
 use Rattle.sampler_player.proofs.Player.loop_back.Tie as tie

@@ -2,9 +2,8 @@
 -- The idea: without a loop E is T of the recording; with one it is the whole number, up to the last stop (`loop-ends`). Assumes nothing.
 use Prim.Native.Nat.{ℕ, _+_, _*_, _^_, _≤_, _<_}
 use native.Mathlib.Omega.{arith}
-use mathlib.Core.Path.{_≡_, refl, sym, ap, _∙_, subst}
+use mathlib.Core.Path.{_≡_, sym, ap, _∙_, subst}
 use lib.IntN.{ℤ, pos, natAbs, _+ℤ_, _-ℤ_}
-use Rattle.timestamp.specs.declared.Timestamp.{Timestamp}
 use Rattle.timestamp.specs.Time.{earlier, loopEnd}
 use Rattle.timestamp.specs.Answer.{fitting}
 use Rattle.sampler_player.specs.Clock.{clockAt, notNegative}
@@ -26,7 +25,7 @@ time-of-requires c κs = search needs
 enum-known-points : tie.Need-enum-known-points
 enum-known-points c = search needs
 
-loop : (c : tie.After-known-told) → Span (c .before .points .given .0 .0) (c .before .points .given .0 .1 .0) (c .before .before .before .args .self)
+loop : (c : tie.After-known-told) → Span (c .before .before .before .args .setup) (c .before .points .given .0 .0) (c .before .points .given .0 .1 .0) (c .before .before .before .args .self)
 loop c = span (c .before .before .before .args .setup) (c .before .points .given .0 .0) (c .before .points .given .0 .1 .0) (c .before .before .before .args .self) (c .before .before .before .pre .1 .1 .1) (c .before .points .given .1)
 
 length-is : (c : tie.After-units) → c .units .result ≡ loopLength (c .before .before .before .before .points .given .0 .0) (c .before .before .before .before .points .given .0 .1 .0)
@@ -35,7 +34,7 @@ length-is c = c .units .ensures ∙ ap notNegative (c .before .difference2 .ensu
 difference-requires : tie.Need-difference-requires
 difference-requires c κs = let i = loop c in
     let a = i .end-size in
-    let b = i .start-size in
+    let b = i .numbers .begun .most in
     difference-fits (c .before .points .given .0 .1 .0 .bits) (c .before .before .before .args .self .start .bits) (omega (arith, a)) (omega (arith, b))
 
 difference-requires-2 : tie.Need-difference-requires-2
@@ -66,7 +65,7 @@ returns-2 c = let a = c .before .before .before .before .before .before .before 
     rw (c .before .before .before .before .before .points .given .1) (
       c .loop-end .ensures .0 ∙ ap (λ (z : ℤ). earlier lastStop (z +ℤ pos (c .before .units .result * n))) (c .before .before .before .difference .ensures)
           ∙ ap (λ (l : ℕ). earlier lastStop (first +ℤ pos (l * n))) (length-is (c .before))
-          ∙ loop-ends (a .setup .rate) (a .setup) (omega arith) (omega arith) first (loopLength (c .before .before .before .before .before .points .given .0 .0) (c .before .before .before .before .before .points .given .0 .1 .0)) n (i .first-size) (i .length-size) (i .few)
+          ∙ loop-ends (a .setup .rate) (a .setup) (omega arith) (omega arith) first (loopLength (c .before .before .before .before .before .points .given .0 .0) (c .before .before .before .before .before .points .given .0 .1 .0)) n (i .first-size) (i .length-size) (i .numbers .tests .few)
           ∙ ap (λ (z : ℤ). nearer (clockAt (a .setup .rate)) (a .setup) lastStop (fitting (loopEnd (a .setup .rate) first z n))) (sym (i .length)),
       c .loop-end .ensures .1,
     )

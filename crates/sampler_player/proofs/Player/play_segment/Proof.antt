@@ -1,15 +1,14 @@
 -- `sampler_player::Player::play_segment` meets its contract.
 -- The idea: the loop carries `kept`, and that from here the passes come to the segment's end (`Turn`); it leaves where no pass is left. Assumes nothing.
-use Prim.Native.Nat.{ℕ, _+_, _-_, _^_, _≤_, _<_}
+use Prim.Native.Nat.{ℕ, _+_, _-_, _≤_, _<_}
 use native.Mathlib.Omega.{arith}
 use mathlib.Core.Path.{_≡_, refl, sym, ap, _∙_, subst}
-use mathlib.Core.Bool.{true}
 use denote.Ref.{now}
 use lib.ListN.{length}
 use Rattle.sampler_player.specs.declared.Player.{Player}
 use Rattle.sampler_player.specs.Clock.{clockAt}
 use Rattle.sampler_player.specs.Pieces.{Lent, Going, leftBy, interval, rendered, segment}
-use Rattle.sampler_player.specs.inner.Lending.{starting, Ready}
+use Rattle.sampler_player.specs.inner.Lending.{starting}
 use Rattle.sampler_player.specs.Pieces.{lending}
 use Rattle.sampler_player.proofs.Fuel.{Over, within-remaining, reach-start, reach-end}
 use Rattle.sampler_player.proofs.Passes.{pass-spent}

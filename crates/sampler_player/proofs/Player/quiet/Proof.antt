@@ -1,7 +1,6 @@
 -- `sampler_player::Player::quiet` meets its contract.
 -- The idea: a time whose one field is 0 is the time 0. Assumes nothing.
-use mathlib.Core.Path.{_≡_, refl, ap, _∙_}
-use lib.IntN.{ℤ}
+use mathlib.Core.Path.{refl}
 use borrow.Author.Needs.{needs}
 use Rattle.sampler_player.proofs.Player.quiet.Statement.{statement}
 use Rattle.sampler_player.proofs.Player.quiet.Tie as tie

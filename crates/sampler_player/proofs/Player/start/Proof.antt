@@ -2,7 +2,7 @@
 -- The idea: a position that passes 11 and a delay of a block fit together. Assumes nothing.
 use Prim.Native.Nat.{ℕ}
 use native.Mathlib.Nat.{le-trans}
-use mathlib.Core.Path.{_≡_, refl, sym, ap, _∙_}
+use mathlib.Core.Path.{ap, _∙_}
 use lib.Dec.{lit≤}
 use lib.IntN.{ℤ}
 use Rattle.sampler_event.proofs.Limits.{place-up}

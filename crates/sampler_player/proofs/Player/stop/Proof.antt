@@ -1,6 +1,6 @@
 -- `sampler_player::Player::stop` meets its contract.
 -- The idea: the two voices are the list (`stop-two`). Assumes nothing.
-use mathlib.Core.Path.{_≡_, refl, sym, _∙_}
+use mathlib.Core.Path.{_≡_, sym, _∙_}
 use lib.ListN.{length, length-map}
 use Rattle.sampler_player.proofs.Two.{stop-two}
 use borrow.Author.Needs.{needs}

@@ -1,13 +1,14 @@
 -- `sampler_player::pieces::loop_end` meets its contract.
 -- The idea: where the code stops counting, the sum is later than the last stop too (`sum-late`). Assumes nothing.
-use Prim.Native.Nat.{ℕ, _+_, _*_, _^_, _≤_}
+use Prim.Native.Nat.{_+_, _*_, _^_, _≤_}
 use native.Mathlib.Omega.{arith}
-use mathlib.Core.Path.{_≡_, refl, sym, ap, _∙_, subst}
+use mathlib.Core.Path.{_≡_, sym, ap, _∙_, subst}
 use lib.IntN.{ℤ, pos, natAbs, _+ℤ_}
 use Rattle.timestamp.specs.Time.{earlier}
 use Rattle.sampler_player.specs.inner.Stroke.{lastStop}
 use Rattle.sampler_player.proofs.Sized.{sum-size, sum-fits}
-use Rattle.sampler_player.proofs.Ends.{sum-late, few-reach, many-reach}
+use Rattle.sampler_player.proofs.Ends.{sum-late}
+use Rattle.sampler_player.proofs.Reaching.{few-reach, many-reach}
 use borrow.Author.Needs.{needs}
 use Rattle.sampler_player.proofs.pieces.loop_end.Statement.{statement}
 use Rattle.sampler_player.proofs.pieces.loop_end.Tie as tie

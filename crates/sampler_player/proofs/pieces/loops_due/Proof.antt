@@ -1,9 +1,9 @@
 -- `sampler_player::pieces::loops_due` meets its contract.
 -- The idea: every number on the way is below 2 ^ 51. Assumes nothing.
-use Prim.Native.Nat.{ℕ, _+_, _^_, _≤_}
+use Prim.Native.Nat.{_+_, _^_, _≤_}
 use native.Mathlib.Omega.{arith}
-use mathlib.Core.Path.{_≡_, refl, sym, ap, _∙_}
-use lib.IntN.{ℤ, natAbs}
+use mathlib.Core.Path.{refl, ap}
+use lib.IntN.{natAbs}
 use Rattle.sampler_player.proofs.Catch.{half-small}
 use Rattle.sampler_player.proofs.Sized.{sum-size, difference-size, not-negative-size, sum-fits, difference-fits}
 use borrow.Author.Needs.{needs}

@@ -1,9 +1,6 @@
 -- `sampler_player::times::units` meets its contract.
 -- The idea: the test is against 0 (`below-none`, `from-none`). Assumes nothing.
 use mathlib.Core.Path.{_≡_}
-use mathlib.Core.Bool.{true, false}
-use lib.IntN.{pos}
-use lib.Signed.{ltZ}
 use mir.Syntax.{w64}
 use mir.Val.{toZ, ofZ, SFits}
 use mir.Facts.{fits-natAbs}
