@@ -6,21 +6,21 @@ use native.Mathlib.Omega.{arith}
 use mathlib.Core.Path.{_≡_, refl, sym, ap, _∙_, subst}
 use mathlib.Core.Bool.{Bool, true, false, cond}
 use mathlib.Core.Option.{Option, none, some}
-use borrow.Author.Tests.{leb-true, leb-false, lt-ltb}
+use borrow.Author.Tests.{leb-true, leb-false}
 use lib.Dec.{leb, ltb, lit≤}
 use lib.IntN.{ℤ, pos, natAbs, _+ℤ_, _-ℤ_, +ℤ-comm, +ℤ-negℤ-cancel}
-use lib.Signed.{mag}
-use Rattle.laws.proofs.Minus.{Minus, shift, plus-minus, nat-minus, size-minus, fits64}
+use Rattle.laws.proofs.Minus.{Minus, shift, plus-minus, nat-minus, size-minus}
 use Rattle.timestamp.specs.Time.{timeOf, frameNear, loopEnd}
 use Rattle.timestamp.specs.Answer.{fitting}
 use Rattle.timestamp.proofs.Frames.{S-T}
-use Rattle.timestamp.proofs.Loop.{E-exact, E-late}
+use Rattle.timestamp.proofs.Loop.{E-late}
 use Rattle.timestamp.proofs.Interval.{interval-none, interval-some}
 use Rattle.timestamp.proofs.Interval as I
 use Rattle.sampler_player.specs.declared.Setup.{Setup}
 use Rattle.sampler_player.specs.Clock.{clockAt}
 use Rattle.sampler_player.specs.Pieces.{nearer}
 use Rattle.sampler_player.specs.inner.Stroke.{halfFrame}
+use Rattle.sampler_player.proofs.Ends.{loop-exact}
 
 module _ (R : ℕ) (lo : 8000 ≤ R) (hi : R ≤ 96000) where
   pub half-least : 2 ^ 31 ≤ halfFrame R * R
@@ -87,11 +87,7 @@ module _ (s : Setup) (lo : 8000 ≤ s .rate) (hi : s .rate ≤ 96000) (P : ℤ) 
 
   -- where E is exact
   exact : len * c + natAbs (pos (len + a) -ℤ pos st) ≤ 2 ^ 49 → fitting (loopEnd (s .rate) (pos (len + a) -ℤ pos st) (pos len) c) ≡ some (pos (len + a) -ℤ pos st +ℤ pos (len * c))
-  exact h =
-      let z = pos (len + a) -ℤ pos st +ℤ pos (len * c) in
-      let f = fits64 z (len + a + len * c + v) (st + v) sum-is (omega arith) (omega arith) in
-      ap fitting (E-exact (s .rate) (pos (len + a) -ℤ pos st) len c (omega arith) (omega arith) (omega arith) (omega arith) h)
-      ∙ ap (λ (t : Bool). cond t (some z) none) (lt-ltb (mag z) (2 ^ 63) (f .sfits))
+  exact h = loop-exact (s .rate) s (omega arith) (omega arith) (pos (len + a) -ℤ pos st) len c size (omega arith) few h
 
   pub catches : len * c + (len + a) + v < w + st + halfFrame (s .rate) → piece s P a st len c l ≡ 0
   catches h =

@@ -59,8 +59,8 @@ long-some : (len R : ℕ) → 63 * 2 ^ 32 ≤ len * R → 0 < len
 long-some zero R h = absurd (omega arith)
 long-some (suc n) R h = omega arith
 
-at : (z : ℤ) (n : ℕ) → z ≡ pos n → Minus z n 0
-at z n e = subst (λ (y : ℤ). Minus y n 0) (sym e) (add-zero n)
+pub minus-none : (z : ℤ) (n : ℕ) → z ≡ pos n → Minus z n 0
+minus-none z n e = subst (λ (y : ℤ). Minus y n 0) (sym e) (add-zero n)
 
 module _ (s : Setup) (x : ℕ) (from end : Timestamp) (p : Player) (i : Looping s x from end p) where
   -- start, loop start and length
@@ -70,7 +70,7 @@ module _ (s : Setup) (x : ℕ) (from end : Timestamp) (p : Player) (i : Looping 
   pub length-pos : end .bits -ℤ from .bits ≡ pos (i .loop .len)
   length-pos =
       minus-pos (end .bits -ℤ from .bits) (i .loop .len + i .loop .a + 0) (0 + i .loop .a) (i .loop .len)
-      (less-minus (end .bits) (from .bits) (i .loop .len + i .loop .a) 0 (i .loop .a) 0 (at (end .bits) (i .loop .len + i .loop .a) (i .loop .finish)) (at (from .bits) (i .loop .a) (i .loop .start)))
+      (less-minus (end .bits) (from .bits) (i .loop .len + i .loop .a) 0 (i .loop .a) 0 (minus-none (end .bits) (i .loop .len + i .loop .a) (i .loop .finish)) (minus-none (from .bits) (i .loop .a) (i .loop .start)))
       (omega arith)
 
   pub length-is : loopLength from end ≡ i .loop .len

@@ -66,14 +66,12 @@ module _ (t : ℤ) (soon : ltZ t lastStop ≡ true) where
 
 -- ---- E with a loop
 module _ (R : ℕ) (s : Setup) (r : 0 < R) (r' : R < 2 ^ 18) (first : ℤ) (b c : ℕ) (near : natAbs first ≤ 2 ^ 42) (short : b ≤ 2 ^ 42) (few : c ≤ 2 ^ 27) where
-  exact : b * c + natAbs first ≤ 2 ^ 49 → earlier lastStop (first +ℤ pos (b * c)) ≡ nearer (clockAt R) s lastStop (fitting (loopEnd R first (pos b) c))
-  exact h =
+  pub loop-exact : b * c + natAbs first ≤ 2 ^ 49 → fitting (loopEnd R first (pos b) c) ≡ some (first +ℤ pos (b * c))
+  loop-exact h =
       let z = first +ℤ pos (b * c) in
       let k = sum-size first (pos (b * c)) in
       let f = fits-size z (omega arith) in
-      sym
-      (ap (λ (y : ℤ). nearer (clockAt R) s lastStop (fitting y)) (E-exact R first b c r r' (omega arith) (omega arith) h)
-      ∙ ap (λ (t : Bool). nearer (clockAt R) s lastStop (cond t (some z) none)) (lt-ltb (mag z) (2 ^ 63) (f .sfits)))
+      ap fitting (E-exact R first b c r r' (omega arith) (omega arith) h) ∙ ap (λ (t : Bool). cond t (some z) none) (lt-ltb (mag z) (2 ^ 63) (f .sfits))
 
   beyond : 2 ^ 49 < b * c + natAbs first → earlier lastStop (first +ℤ pos (b * c)) ≡ nearer (clockAt R) s lastStop (fitting (loopEnd R first (pos b) c))
   beyond h =
@@ -90,5 +88,5 @@ module _ (R : ℕ) (s : Setup) (r : 0 < R) (r' : R < 2 ^ 18) (first : ℤ) (b c 
   loop-ends = go (leb (b * c + natAbs first) (2 ^ 49)) refl
     where
       go : (t : Bool) → leb (b * c + natAbs first) (2 ^ 49) ≡ t → earlier lastStop (first +ℤ pos (b * c)) ≡ nearer (clockAt R) s lastStop (fitting (loopEnd R first (pos b) c))
-      go true e = exact (leb-true (b * c + natAbs first) (2 ^ 49) e)
+      go true e = ap (λ (o : Option ℤ). nearer (clockAt R) s lastStop o) (sym (loop-exact (leb-true (b * c + natAbs first) (2 ^ 49) e)))
       go false e = beyond (leb-false (b * c + natAbs first) (2 ^ 49) e)

@@ -5,55 +5,31 @@ use native.Mathlib.Omega.{arith}
 use native.Mathlib.Nat.{le-refl, le-trans, zero-add, suc-add, add-comm}
 use mathlib.Core.Path.{_≡_, refl, ap, _∙_, sym}
 use mathlib.Core.Option.{Option, none, some}
-use Rattle.sampler_player.specs.declared.Points.{Points}
-use Rattle.sampler_player.specs.declared.Points.the-variants.{Absent, Between}
 use Rattle.sampler_player.specs.declared.Setup.{Setup}
-use Rattle.sampler_player.specs.declared.Player.{Player}
 use Rattle.sampler_player.specs.Clock.{Clock}
-use Rattle.sampler_player.specs.Pieces.{Lent, Going, interval, loopBack, after, rendered, caughtUp, passOf, pass, passes, segment}
+use Rattle.sampler_player.specs.Pieces.{Lent, Going, after, rendered, pass, passes, segment}
 use Rattle.sampler_player.proofs.Assign.{back-completed}
+use Rattle.sampler_player.proofs.Passes.{Each, each-pass, pass-spent}
+pub use Rattle.sampler_player.proofs.Passes.{Over, within-remaining}
 
 -- the frames that remain, and the loops that may still be completed
-abbrev pub left : Going → ℕ
+abbrev left : Going → ℕ
 left g = g .remaining + (2 ^ 27 + 1 - g .player .completed)
 
-pub record Onward (g h : Going) : Type 0 where
-  pub grows : g .player .completed ≤ h .player .completed
-  pub falls : g .player .completed ≤ 2 ^ 27 → left h < left g
-
-abbrev pub Ahead : Going → Option Going → Type 0
-Ahead g none = Unit {0}
-Ahead g (some h) = Onward g h
-
--- the segment has ended
-abbrev pub Over : Clock → Setup → Lent → Going → Type 0
-Over k s b g = pass k s b (g .remaining) g ≡ none
-
--- an interval is within what remains
-pub within-remaining : (k : Clock) (s : Setup) (p : Player) (r : ℕ) → interval k s p r ≤ r
-unfolding interval
-within-remaining k s p r = omega arith
+record Onward (g h : Going) : Type 0 where
+  grows : g .player .completed ≤ h .player .completed
+  falls : g .player .completed ≤ 2 ^ 27 → left h < left g
 
 module _ (k : Clock) (s : Setup) (b : Lent) where
-  ahead-caught : (q : Points) (g : Going) → Ahead g (caughtUp k s b q g)
-  unfolding caughtUp
-  ahead-caught Absent g = tt
-  ahead-caught (Between from end) g =
-      let e : loopBack k s from (g .player) .completed ≡ g .player .completed + 1 = back-completed k s from (g .player) in
-      record { grows = omega arith; falls = λ c. omega arith }
-
-  ahead-piece : (i : ℕ) (g : Going) → i ≤ g .remaining → Ahead g (passOf k s b i g)
-  unfolding passOf rendered
-  ahead-piece zero g h = ahead-caught (g .player .points) g
-  ahead-piece (suc i) g h = record { grows = le-refl _; falls = λ c. omega arith }
-
-  pub ahead-pass : (r : ℕ) (g : Going) → r ≤ g .remaining → Ahead g (pass k s b r g)
-  unfolding pass
-  ahead-pass zero g h = tt
-  ahead-pass (suc r) g h = ahead-piece (interval k s (g .player) (suc r)) g (le-trans (within-remaining k s (g .player) (suc r)) h)
+  ahead-pass : (g : Going) → Each (Onward g) (pass k s b (g .remaining) g)
+  unfolding rendered
+  ahead-pass g =
+      each-pass k s b g (Onward g)
+      (λ from end q h z. let e = back-completed k s from (g .player) in record { grows = omega (arith, e); falls = λ c. omega (arith, e) })
+      (λ n e h. record { grows = le-refl _; falls = λ c. omega arith })
 
   -- loops are only added
-  grown : (go : Going → Going) → ((h : Going) → h .player .completed ≤ go h .player .completed) → (g : Going) (o : Option Going) → Ahead g o
+  grown : (go : Going → Going) → ((h : Going) → h .player .completed ≤ go h .player .completed) → (g : Going) (o : Option Going) → Each (Onward g) o
       → g .player .completed ≤ after go g o .player .completed
   grown go ih g none a = le-refl _
   grown go ih g (some h) a = le-trans (a .grows) (ih h)
@@ -61,19 +37,14 @@ module _ (k : Clock) (s : Setup) (b : Lent) where
   growing : (f : ℕ) (g : Going) → g .player .completed ≤ passes k s b f g .player .completed
   unfolding passes
   growing zero g = le-refl _
-  growing (suc f) g = grown (λ h. passes k s b f h) (growing f) g (pass k s b (g .remaining) g) (ahead-pass (g .remaining) g (le-refl _))
-
-  none-left : (r : ℕ) (g : Going) → r ≤ 0 → pass k s b r g ≡ none
-  unfolding pass
-  none-left zero g h = refl
-  none-left (suc r) g h = absurd (omega arith)
+  growing (suc f) g = grown (λ h. passes k s b f h) (growing f) g (pass k s b (g .remaining) g) (ahead-pass g)
 
   ends : (f : ℕ) (go : Going → Going)
       → ((h : Going) → h .player .completed ≤ go h .player .completed)
       → ((h : Going) → left h ≤ f → go h .player .completed ≤ 2 ^ 27 → Over k s b (go h))
       → (g : Going) (o : Option Going)
       → pass k s b (g .remaining) g ≡ o
-      → Ahead g o
+      → Each (Onward g) o
       → left g ≤ suc f
       → after go g o .player .completed ≤ 2 ^ 27
       → Over k s b (after go g o)
@@ -86,9 +57,9 @@ module _ (k : Clock) (s : Setup) (b : Lent) where
 
   ended : (f : ℕ) (g : Going) → left g ≤ f → passes k s b f g .player .completed ≤ 2 ^ 27 → Over k s b (passes k s b f g)
   unfolding passes
-  ended zero g h c = none-left (g .remaining) g (omega arith)
+  ended zero g h c = pass-spent k s b g (omega arith)
   ended (suc f) g h c =
-      ends f (λ x. passes k s b f x) (growing f) (ended f) g (pass k s b (g .remaining) g) refl (ahead-pass (g .remaining) g (le-refl _)) h c
+      ends f (λ x. passes k s b f x) (growing f) (ended f) g (pass k s b (g .remaining) g) refl (ahead-pass g) h c
 
   -- a segment after which a sound number of loops is completed has ended
   pub segment-ended : (g : Going) → segment k s b g .player .completed ≤ 2 ^ 27 → Over k s b (segment k s b g)

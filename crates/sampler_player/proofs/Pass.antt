@@ -21,6 +21,7 @@ use Rattle.sampler_player.specs.declared.Points.the-variants.{Between}
 use Rattle.sampler_player.specs.declared.Setup.{Setup}
 use Rattle.sampler_player.specs.declared.Player.{Player}
 use Rattle.sampler_player.specs.Clock.{clockAt}
+use Rattle.sampler_player.specs.Assign.{assign}
 use Rattle.sampler_player.specs.Pieces.{Lent, bothMixed, Going, interval, loopBack, rendered}
 use Rattle.sampler_player.specs.inner.Kept.{kept, voicesKept}
 use Rattle.sampler_player.proofs.Assign.{counted}
@@ -28,7 +29,7 @@ use Rattle.sampler_player.proofs.Kept.{opened, closed, stands, stands-w
 use Rattle.sampler_player.proofs.Held.{mix-active}
 use Rattle.sampler_player.proofs.Voices.{mix-voices}
 use Rattle.sampler_player.proofs.Assigned.{assign-kept}
-use Rattle.sampler_player.proofs.Due.{looping, kept-counted}
+use Rattle.sampler_player.proofs.Due.{looping, kept-counted, minus-none}
 use Rattle.sampler_player.specs.inner.Stroke.{loopLength, due, caughtTo}
 use Rattle.sampler_player.proofs.Stroke.{catches-when, stroke-few, stroke-more, stroked}
 
@@ -55,25 +56,23 @@ module _ (s : Setup) (b : Lent) (lo : 8000 ≤ s .rate) (hi : s .rate ≤ 96000)
       let d = stroke-few s lo hi x m from end p k q t in
       omega (arith, c, d)
 
+  -- c loops completed, and the voice assigned at the loop start
+  counted-kept : (x c : ℕ) (from end : Timestamp) (p : Player) → x ≤ 4096 → p .points ≡ Between from end → c ≤ 2 ^ 27 → kept s x p ≡ true
+      → kept s x (assign (clockAt (s .rate)) (from .bits) (counted c p)) ≡ true
+  counted-kept x c from end p m q h k =
+      let i = looping s x from end p m q k in
+      let e = i .loop .early in
+      assign-kept s x (from .bits) (i .loop .a) 0 (counted c p) hi m (minus-none (from .bits) (i .loop .a) (i .loop .start)) (omega arith) (omega arith) (kept-counted s x c p h k)
+
   pub back-kept : (x : ℕ) (from end : Timestamp) (p : Player) → x ≤ 4096 → p .points ≡ Between from end → p .completed < 2 ^ 27 → kept s x p ≡ true
       → kept s x (loopBack (clockAt (s .rate)) s from p) ≡ true
   unfolding loopBack
-  back-kept x from end p m q c k =
-      let i = looping s x from end p m q k in
-      let e = i .loop .early in
-      assign-kept s x (from .bits) (i .loop .a) 0 (counted (p .completed + 1) p) hi m
-      (subst (λ (z : ℤ). Minus z (i .loop .a) 0) (sym (i .loop .start)) (add-zero (i .loop .a))) (omega arith) (omega arith)
-      (kept-counted s x (p .completed + 1) p (omega arith) k)
+  back-kept x from end p m q c k = counted-kept x (p .completed + 1) from end p m q (omega arith) k
 
   -- all of them at one stroke
   pub stroked-kept : (x : ℕ) (from end : Timestamp) (p : Player) → x ≤ 4096 → p .points ≡ Between from end
       → ltZ (pos (loopLength from end * p .completed)) (due (s .rate) end p) ≡ true → kept s x p ≡ true → kept s x (stroked s from end p) ≡ true
-  stroked-kept x from end p m q t k =
-      let i = looping s x from end p m q k in
-      let e = i .loop .early in
-      let c = caughtTo (s .rate) from end p in
-      assign-kept s x (from .bits) (i .loop .a) 0 (counted c p) hi m (subst (λ (z : ℤ). Minus z (i .loop .a) 0) (sym (i .loop .start)) (add-zero (i .loop .a)))
-      (omega arith) (omega arith) (kept-counted s x c p (le-of-lt (stroke-few s lo hi x m from end p k q t)) k)
+  stroked-kept x from end p m q t k = counted-kept x (caughtTo (s .rate) from end p) from end p m q (le-of-lt (stroke-few s lo hi x m from end p k q t)) k
 
   -- ---- a pass that renders n frames
   module _ (table : length (b .table) ≡ s .fade) where

@@ -23,13 +23,10 @@ use Rattle.sampler_player.specs.Assign.{voiced, assign}
 use Rattle.sampler_player.specs.Pieces.{Lent, Going, endOf, nearer, interval, loopBack, after, caughtUp, passOf, pass, passes}
 use Rattle.sampler_player.specs.inner.Kept.{kept}
 use Rattle.sampler_player.proofs.Assign.{counted, Apart, assign-leaves, assign-twice, assign-counted}
+use Rattle.sampler_player.proofs.Passes.{going}
 use Rattle.sampler_player.proofs.Due.{looping, kept-counted, caught-when}
 use Rattle.sampler_player.specs.inner.Stroke.{loopLength, due, caughtTo}
 use Rattle.sampler_player.proofs.Target.{target-more, target-below, target-there, target-few}
-
--- the same place in a segment with another player
-abbrev pub going : Player → Going → Going
-going p g = record { player = p; out = g .out; at = g .at; remaining = g .remaining; pieces = g .pieces }
 
 -- ---- an interval looks at no voice
 module _ (k : Clock) (s : Setup) where

@@ -1,21 +1,18 @@
 -- "The pieces reported equal the number of such renderings"; the position after them is the sum of their T; and the output's next frame is their total further on.
 -- The idea: a pass renders n frames, or none and then only catches up. Assumes nothing.
-use Prim.Native.Nat.{ℕ, zero, suc, _+_, _-_, _^_, _≤_}
+use Prim.Native.Nat.{ℕ, zero, suc, _+_, _-_, _^_}
 use native.Mathlib.Omega.{arith}
-use native.Mathlib.Nat.{le-refl, le-trans}
 use mathlib.Core.Path.{_≡_, refl, ap, _∙_, sym, subst}
 use mathlib.Core.List.{List}
 use mathlib.Core.Option.{Option, none, some}
 use lib.IntN.{ℤ, _+ℤ_}
 use lib.ListN.{length}
 use Rattle.timestamp.specs.declared.Timestamp.{Timestamp}
-use Rattle.sampler_player.specs.declared.Points.{Points}
-use Rattle.sampler_player.specs.declared.Points.the-variants.{Absent, Between}
 use Rattle.sampler_player.specs.declared.Setup.{Setup}
 use Rattle.sampler_player.specs.Clock.{Clock}
-use Rattle.sampler_player.specs.Pieces.{Lent, Going, interval, after, andThen, pieceOf, total, travel, rendered, caughtUp, passOf, pass, passes, segment, renderings}
+use Rattle.sampler_player.specs.Pieces.{Lent, Going, after, andThen, pieceOf, total, travel, rendered, pass, passes, segment, renderings}
 use Rattle.sampler_player.proofs.Assign.{back-position}
-use Rattle.sampler_player.proofs.Fuel.{within-remaining}
+use Rattle.sampler_player.proofs.Passes.{Each, each-pass}
 
 -- a pass of n frames: none for a catch-up
 onward-position : Clock → ℤ → ℕ → ℤ
@@ -32,10 +29,6 @@ record Moved (k : Clock) (g h : Going) : Type 0 where
   position : h .player .position .bits ≡ onward-position k (g .player .position .bits) n
   count : h .pieces ≡ g .pieces + onward-count n
   at : h .at ≡ g .at + n
-
-abbrev Ahead : Clock → Going → Option Going → Type 0
-Ahead k g none = Unit {0}
-Ahead k g (some h) = Moved k g h
 
 -- ---- what some pieces give
 travel-piece : (k : Clock) (z : ℤ) (n : ℕ) (ms : List ℕ) → travel k (onward-position k z n) ms ≡ travel k z (pieceOf n ms)
@@ -59,23 +52,14 @@ pub record Traced (k : Clock) (g h : Going) (ms : List ℕ) : Type 0 where
   pub at : h .at ≡ g .at + total ms
 
 module _ (k : Clock) (s : Setup) (b : Lent) where
-  ahead-caught : (q : Points) (g : Going) → Ahead k g (caughtUp k s b q g)
-  unfolding caughtUp onward-position onward-count
-  ahead-caught Absent g = tt
-  ahead-caught (Between from end) g =
-      record { n = 0; by = omega arith; position = ap (λ (t : Timestamp). t .bits) (back-position k s from (g .player)); count = omega arith; at = omega arith }
+  ahead-pass : (g : Going) → Each (Moved k g) (pass k s b (g .remaining) g)
+  unfolding rendered onward-position onward-count
+  ahead-pass g =
+      each-pass k s b g (Moved k g)
+      (λ from end q h z. record { n = 0; by = omega arith; position = ap (λ (t : Timestamp). t .bits) (back-position k s from (g .player)); count = omega arith; at = omega arith })
+      (λ i e h. record { n = suc i; by = omega arith; position = refl; count = refl; at = refl })
 
-  ahead-piece : (i : ℕ) (g : Going) → i ≤ g .remaining → Ahead k g (passOf k s b i g)
-  unfolding passOf rendered onward-position onward-count
-  ahead-piece zero g h = ahead-caught (g .player .points) g
-  ahead-piece (suc i) g h = record { n = suc i; by = omega arith; position = refl; count = refl; at = refl }
-
-  ahead-pass : (r : ℕ) (g : Going) → r ≤ g .remaining → Ahead k g (pass k s b r g)
-  unfolding pass
-  ahead-pass zero g h = tt
-  ahead-pass (suc r) g h = ahead-piece (interval k s (g .player) (suc r)) g (le-trans (within-remaining k s (g .player) (suc r)) h)
-
-  on : (go : Going → Going) (tell : Going → List ℕ) → ((h : Going) → Traced k h (go h) (tell h)) → (g : Going) (o : Option Going) → Ahead k g o
+  on : (go : Going → Going) (tell : Going → List ℕ) → ((h : Going) → Traced k h (go h) (tell h)) → (g : Going) (o : Option Going) → Each (Moved k g) o
       → Traced k g (after go g o) (andThen tell g o)
   on go tell ih g none a = record { position = refl; count = omega arith; at = omega arith }
   on go tell ih g (some h) a =
@@ -90,7 +74,7 @@ module _ (k : Clock) (s : Setup) (b : Lent) where
   unfolding passes renderings
   traced zero g = record { position = refl; count = omega arith; at = omega arith }
   traced (suc f) g =
-      on (λ h. passes k s b f h) (λ h. renderings k s b f h) (traced f) g (pass k s b (g .remaining) g) (ahead-pass (g .remaining) g (le-refl _))
+      on (λ h. passes k s b f h) (λ h. renderings k s b f h) (traced f) g (pass k s b (g .remaining) g) (ahead-pass g)
 
   pub segment-traced : (g : Going) → Traced k g (segment k s b g) (renderings k s b (g .remaining + (2 ^ 27 + 1)) g)
   unfolding segment

@@ -19,9 +19,9 @@ use Rattle.sampler_player.specs.Pieces.{Lent, Going, Segment, leftBy, in
 use Rattle.sampler_player.specs.inner.Kept.{kept}
 use Rattle.sampler_player.specs.inner.Stroke.{loopLength, due, caughtTo, looped, strokeAt, strokeOf}
 use Rattle.sampler_player.specs.inner.Lending.{starting, ending}
-use Rattle.sampler_player.proofs.Fuel.{Over, Reach, reach-next, reach-jump}
-use Rattle.sampler_player.proofs.Passes.{pass-sounds, pass-ends}
-use Rattle.sampler_player.proofs.Stroke.{going, catches-when, stroke, stroke-sounds}
+use Rattle.sampler_player.proofs.Fuel.{Reach, reach-next, reach-jump}
+use Rattle.sampler_player.proofs.Passes.{Over, going, pass-sounds, pass-ends}
+use Rattle.sampler_player.proofs.Stroke.{catches-when, stroke, stroke-sounds}
 use Rattle.sampler_player.proofs.Pass.{stroked-kept, rendered-kept}
 
 -- what the loop carries, with x frames of the block to come

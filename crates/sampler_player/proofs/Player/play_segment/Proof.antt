@@ -10,11 +10,10 @@ use Rattle.sampler_player.specs.Clock.{clockAt}
 use Rattle.sampler_player.specs.Pieces.{Lent, Going, leftBy, interval, rendered, segment}
 use Rattle.sampler_player.specs.inner.Lending.{starting}
 use Rattle.sampler_player.specs.Pieces.{lending}
-use Rattle.sampler_player.proofs.Fuel.{Over, within-remaining, reach-start, reach-end}
-use Rattle.sampler_player.proofs.Passes.{pass-spent}
+use Rattle.sampler_player.proofs.Fuel.{reach-start, reach-end}
+use Rattle.sampler_player.proofs.Passes.{Over, going, within-remaining, pass-spent}
 use Rattle.sampler_player.proofs.Assigned.{kept-less}
 use Rattle.sampler_player.proofs.Enough.{segment-over}
-use Rattle.sampler_player.proofs.Stroke.{going}
 use Rattle.sampler_player.proofs.Turn.{Carried, piece-is, stroke-carried, piece-carried, stroke-ends}
 use Rattle.sampler_player.proofs.Player.play_segment.Statement.{statement}
 use Rattle.sampler_player.proofs.Player.play_segment.Tie as tie
