@@ -194,13 +194,25 @@ exact-neg R a b c r r' hb hc w = go (leb (framesN R (suc a)) (prodN R b c)) (leb
     turn : (x y : ℕ) → x + y ≤ 2 ^ 49 → y + x ≤ 2 ^ 49
     turn x y h = omega arith
 
-    go : (t : Bool) → (T t → framesN R (suc a) ≤ prodN R b c) → (T (not t) → prodN R b c < framesN R (suc a)) → time R (add binary64 (framesOf R (negsuc a)) (mul binary64 (framesOf R (pos b)) (ofInt binary64 (pos c)))) ≡ subℕ (b * c) (suc a)
+    go : (t : Bool) → (T t → framesN R (suc a) ≤ prodN R b c) → (T (not t) → prodN R b c < framesN R (suc a))
+        → time R (add binary64 (framesOf R (negsuc a)) (mul binary64 (framesOf R (pos b)) (ofInt binary64 (pos c)))) ≡ subℕ (b * c) (suc a)
     go true h k =
-        let g = gap R false (prodN R b c) (b * c) (framesN R (suc a)) (suc a) r r' (lt-of-le-of-lt (prod-le R b c r' hb hc) (lit≤ tt)) (prod-multiple R b c) (frames-multiple R (suc a)) w (h tt) (prod-off R b c) (first-off R (suc a)) in
-        ap (λ (z : Float). time R z) (up-units (framesOf R (negsuc a)) (mul binary64 (framesOf R (pos b)) (ofInt binary64 (pos c))) (framesN R (suc a)) (prodN R b c) (S-value-neg R a (wide R r') (under a (b * c) w)) (prod-value R b c r' hb hc) (h tt)) ∙ g .1 ∙ sub-up (b * c) (suc a) (g .0)
+        let small = lt-of-le-of-lt (prod-le R b c r' hb hc) (lit≤ tt) in
+        let g =
+        gap R false (prodN R b c) (b * c) (framesN R (suc a)) (suc a) r r' small (prod-multiple R b c) (frames-multiple R (suc a)) w (h tt) (prod-off R b c) (first-off R (suc a)) in
+        ap (λ (z : Float). time R z)
+        (up-units (framesOf R (negsuc a)) (mul binary64 (framesOf R (pos b)) (ofInt binary64 (pos c))) (framesN R (suc a)) (prodN R b c)
+        (S-value-neg R a (wide R r') (under a (b * c) w)) (prod-value R b c r' hb hc) (h tt))
+        ∙ g .1 ∙ sub-up (b * c) (suc a) (g .0)
     go false h k =
-        let g = gap R true (framesN R (suc a)) (suc a) (prodN R b c) (b * c) r r' (lt-of-le-of-lt (framesN-le R (suc a) r' (under a (b * c) w)) (lit≤ tt)) (frames-multiple R (suc a)) (prod-multiple R b c) (turn (b * c) (suc a) w) (le-of-lt (k tt)) (first-off R (suc a)) (prod-off R b c) in
-        ap (λ (z : Float). time R z) (down-units (framesOf R (negsuc a)) (mul binary64 (framesOf R (pos b)) (ofInt binary64 (pos c))) (framesN R (suc a)) (prodN R b c) (S-value-neg R a (wide R r') (under a (b * c) w)) (prod-value R b c r' hb hc) (k tt)) ∙ g .1 ∙ sub-down (b * c) (suc a) (g .0)
+        let small = lt-of-le-of-lt (framesN-le R (suc a) r' (under a (b * c) w)) (lit≤ tt) in
+        let g =
+        gap R true (framesN R (suc a)) (suc a) (prodN R b c) (b * c) r r' small (frames-multiple R (suc a)) (prod-multiple R b c) (turn (b * c) (suc a) w) (le-of-lt (k tt))
+        (first-off R (suc a)) (prod-off R b c) in
+        ap (λ (z : Float). time R z)
+        (down-units (framesOf R (negsuc a)) (mul binary64 (framesOf R (pos b)) (ofInt binary64 (pos c))) (framesN R (suc a)) (prodN R b c)
+        (S-value-neg R a (wide R r') (under a (b * c) w)) (prod-value R b c r' hb hc) (k tt))
+        ∙ g .1 ∙ sub-down (b * c) (suc a) (g .0)
 
 -- ---- E-exact
 pub E-exact : (R : ℕ) (first : ℤ) (b c : ℕ) → 0 < R → R < 2 ^ 18 → b < 2 ^ 53 → c < 2 ^ 53 → b * c + natAbs first ≤ 2 ^ 49 → loopEnd R first (pos b) c ≡ first +ℤ pos (b * c)
@@ -227,9 +239,13 @@ unfolding loopEnd
 late-neg R a b c r r' hb hc h w =
     let x = prodN R b c in
     let y = framesN R (suc a) in
-    let l : y ≤ x = off-far x (b * c * step R) y (suc a * step R) (subst (λ (z : ℕ). z ≤ b * c * step R) (mul-assoc 2 (suc a) (step R)) (mul-le-mul-right (step R) (twice (b * c) (suc a) h w))) (prod-off R b c) (first-off R (suc a)) in
-    let e = gap-near R false x (b * c) y (suc a) r r' (lt-of-le-of-lt (prod-le R b c r' hb hc) (lit≤ tt)) (prod-multiple R b c) (frames-multiple R (suc a)) l (once (b * c) (suc a) h w) (prod-off R b c) (first-off R (suc a)) in
-    (e .0, ap (λ (z : Float). time R z) (up-units (framesOf R (negsuc a)) (mul binary64 (framesOf R (pos b)) (ofInt binary64 (pos c))) y x (S-value-neg R a (wide R r') (lt-of-le-of-lt h (lit≤ tt))) (prod-value R b c r' hb hc) l) ∙ e .1, far (e .0) (b * c) (suc a) h w (e .2))
+    let two = subst (λ (z : ℕ). z ≤ b * c * step R) (mul-assoc 2 (suc a) (step R)) (mul-le-mul-right (step R) (twice (b * c) (suc a) h w)) in
+    let l : y ≤ x = off-far x (b * c * step R) y (suc a * step R) two (prod-off R b c) (first-off R (suc a)) in
+    let small = lt-of-le-of-lt (prod-le R b c r' hb hc) (lit≤ tt) in
+    let e = gap-near R false x (b * c) y (suc a) r r' small (prod-multiple R b c) (frames-multiple R (suc a)) l (once (b * c) (suc a) h w) (prod-off R b c) (first-off R (suc a)) in
+    let u =
+    up-units (framesOf R (negsuc a)) (mul binary64 (framesOf R (pos b)) (ofInt binary64 (pos c))) y x (S-value-neg R a (wide R r') (lt-of-le-of-lt h (lit≤ tt))) (prod-value R b c r' hb hc) l in
+    (e .0, ap (λ (z : Float). time R z) u ∙ e .1, far (e .0) (b * c) (suc a) h w (e .2))
   where
     twice : (p q : ℕ) → q ≤ 2 ^ 43 → 2 ^ 49 < p + q → 2 * q ≤ p
     twice p q h w = omega arith

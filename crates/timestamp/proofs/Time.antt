@@ -72,7 +72,9 @@ once R x r r' h =
     let n = half-ulp binary64 x R r in
     let b = beside x R (2 ^ 1074) (2 ^ 1024) (ulp binary64 x R) (grid binary64 x R) refl (pow-pos 1024) (pow-mono d) r' (n .0) (n .1) in
     closest-beside (x * 2 ^ 32) R (grid binary64 x R * 2 ^ 32) (2 ^ low binary64) r (pow-pos 1074) (b .0) (b .1)
-    (λ v e. mul-right-comm (grid binary64 x R) (2 ^ 32) R ∙ ap (λ (z : ℕ). z * 2 ^ 32) (grid-exact binary64 x R (2 * v - 1) 1041 r (le-trans d (lit≤ tt)) (halfway x R v (2 ^ 1074) (2 ^ 1041) r refl e)) ∙ mul-right-comm x (2 ^ 1074) (2 ^ 32))
+    (λ v e. mul-right-comm (grid binary64 x R) (2 ^ 32) R
+    ∙ ap (λ (z : ℕ). z * 2 ^ 32) (grid-exact binary64 x R (2 * v - 1) 1041 r (le-trans d (lit≤ tt)) (halfway x R v (2 ^ 1074) (2 ^ 1041) r refl e))
+    ∙ mul-right-comm x (2 ^ 1074) (2 ^ 32))
 
 pub T-once : (R x : ℕ) → 0 < R → R < 2 ^ 18 → x < 8 * R → timeOf R x ≡ pos (closest (x * 2 ^ 32) R)
 unfolding timeOf time
@@ -124,7 +126,9 @@ unfolding timeN
 T-wide R x r r' h =
     let g = grid binary64 x (R * 1) in
     let t = closest (g * 2 ^ 32) (2 ^ 1074) in
-    (t, T-value R x r r' h, both t g x R (2 ^ 1074) (pow-pos 1074) (subst (λ (z : ℕ). Rounded (g * z) (x * 2 ^ 1074)) (mul-one R) (relative-or-zero binary64 x (R * 1) (mul-pos r (zero-lt-suc 0)) (go (eq-zero-or-pos x)))) (closest-near (g * 2 ^ 32) (2 ^ 1074) (pow-pos 1074)))
+    let o = relative-or-zero binary64 x (R * 1) (mul-pos r (zero-lt-suc 0)) (go (eq-zero-or-pos x)) in
+    let n = closest-near (g * 2 ^ 32) (2 ^ 1074) (pow-pos 1074) in
+    (t, T-value R x r r' h, both t g x R (2 ^ 1074) (pow-pos 1074) (subst (λ (z : ℕ). Rounded (g * z) (x * 2 ^ 1074)) (mul-one R) o) n)
   where
     go : (x ≡ 0) ⊎ (0 < x) → (x ≡ 0) ⊎ Normal binary64 x (R * 1)
     go (inl e) = inl e
@@ -139,7 +143,11 @@ value-finite (fin t m e) s a c v = refl
 T-short : (R x : ℕ) → 2 ^ 12 ≤ R → x ≤ 2 ^ 40 → timeN R x 1 < 2 ^ 63
 unfolding timeN
 T-short R x r h =
-    lt-of-le-of-lt (closest-mono (grid binary64 x (R * 1) * 2 ^ 32) (2 ^ 1074) (2 ^ 61) 1 (pow-pos 1074) (zero-lt-suc 0) (le-trans (le-of-eq (mul-one (grid binary64 x (R * 1) * 2 ^ 32))) (le-trans (mul-le-mul-right (2 ^ 32) (grid-le binary64 x (R * 1) 29 (positive R r) (lit≤ tt) (under R x r h))) (lit≤ tt)))) (lit≤ tt)
+    let g = grid binary64 x (R * 1) in
+    let few : g ≤ 2 ^ 29 * 2 ^ low binary64 = grid-le binary64 x (R * 1) 29 (positive R r) (lit≤ tt) (under R x r h) in
+    lt-of-le-of-lt
+    (closest-mono (g * 2 ^ 32) (2 ^ 1074) (2 ^ 61) 1 (pow-pos 1074) (zero-lt-suc 0)
+    (le-trans (le-of-eq (mul-one (g * 2 ^ 32))) (le-trans (mul-le-mul-right (2 ^ 32) few) (lit≤ tt)))) (lit≤ tt)
   where
     positive : (R : ℕ) → 2 ^ 12 ≤ R → 0 < R * 1
     positive R r = omega arith
