@@ -1,21 +1,19 @@
 -- A test's answer as a fact, tests joined by "and" and "or", and the tests of a float against a power of two, zero and the infinities.
 -- The idea: a joined test goes by its first; a test on floats computes to one on the fractions' cross products. Assumes nothing.
-use mathlib.Core.Path.{_≡_, refl, sym, ap, subst, subst₂}
-use mathlib.Core.Logic.{inl, inr}
+use mathlib.Core.Path.{_≡_, refl, sym, ap, subst}
 use mathlib.Core.Bool.{Bool, true, false, not, _&&_, _||_, true≢false, false≢true}
 use Prim.Native.Nat.{ℕ, _+_, _*_, _^_, _≤_, _<_}
-use native.Mathlib.Nat.{le-trans, le-of-eq, eq-or-lt-of-le, lt-of-lt-of-le, lt-of-le-of-lt, mul-one, one-mul, mul-right-comm, mul-le-mul-left, mul-le-mul-right, mul-lt-mul-of-pos-right, lt-of-mul-lt-mul-right}
+use native.Mathlib.Nat.{le-trans, le-of-eq, lt-of-lt-of-le, lt-of-le-of-lt, mul-one, one-mul, mul-right-comm, mul-le-mul-left, mul-le-mul-right, mul-lt-mul-of-pos-right, lt-of-mul-lt-mul-right}
 use native.Mathlib.Omega.{arith}
 use lib.IntN.{ℤ, pos}
-use lib.Dec.{T, ltb, eqb, ltb→lt, lt→ltb, nltb→le}
+use lib.Dec.{T, ltb→lt, lt→ltb, nltb→le}
 use lib.Pow.{pow-pos}
-use lib.Ieee.{Float, nan, inf, fin, up, down, lt, le}
+use lib.Ieee.{Float, nan, inf, fin, up, down, lt}
 use lib.Ieee.Fits.{up-pos, down-pos}
 use lib.Ieee.Exact.{HasValue}
-use lib.Ieee.Order.{transfer}
 use lib.Ieee.Positive.{num, den, positive, first-pos}
 use lib.Ieee.Scale.{finite}
-use borrow.Author.Tests.{lt-ltb, le-ltb, eq-eqb}
+use borrow.Author.Tests.{lt-ltb, le-ltb}
 
 pub yes : {b : Bool} → b ≡ true → T b
 yes h = subst T (sym h) tt
@@ -125,52 +123,3 @@ not-finite nan h = refl
 not-finite (inf true) h = absurd h
 not-finite (inf false) h = refl
 not-finite (fin s m e) h = absurd h
-
--- ---- the order of two values, one or both with a sign (lib.Ieee.Order has `le-of-values` for none)
-or-left : (a b : Bool) → T a → T (a || b)
-or-left true b t = tt
-or-left false b t = absurd t
-
-or-right : (a b : Bool) → T b → T (a || b)
-or-right true b t = tt
-or-right false b t = t
-
-both-zero : (x y : ℕ) → x + y ≤ 0 → T (eqb x y && eqb x 0)
-both-zero x y h = subst₂ (λ (a b : ℕ). T (eqb a b && eqb a 0)) (none x y h) (none' x y h) tt
-  where
-    none : (x y : ℕ) → x + y ≤ 0 → 0 ≡ x
-    none x y h = omega arith
-
-    none' : (x y : ℕ) → x + y ≤ 0 → 0 ≡ y
-    none' x y h = omega arith
-
-pub le-of-opposites : (x y : Float) (a c b d : ℕ) → HasValue x true a c → HasValue y false b d → T (le x y)
-unfolding le
-le-of-opposites nan y a c b d v w = absurd v
-le-of-opposites (inf s) y a c b d v w = absurd v
-le-of-opposites (fin false m e) y a c b d v w = absurd (true≢false (sym (v .0)))
-le-of-opposites (fin true m e) nan a c b d v w = absurd w
-le-of-opposites (fin true m e) (inf t) a c b d v w = absurd w
-le-of-opposites (fin true m e) (fin true n g) a c b d v w = absurd (true≢false (w .0))
-le-of-opposites (fin true m e) (fin false n g) a c b d v w = go (m * up e * down g) (n * up g * down e)
-  where
-    go : (p q : ℕ) → T (ltb 0 (p + q) || (eqb p q && eqb p 0))
-    go p q = by (ltb 0 (p + q)) (nltb→le 0 (p + q))
-      where
-        by : (t : Bool) → (T (not t) → p + q ≤ 0) → T (t || (eqb p q && eqb p 0))
-        by true f = tt
-        by false f = both-zero p q (f tt)
-
-pub le-of-minuses : (x y : Float) (a c b d : ℕ) → 0 < c → 0 < d → HasValue x true a c → HasValue y true b d → b * c ≤ a * d → T (le x y)
-unfolding le
-le-of-minuses nan y a c b d C D v w h = absurd v
-le-of-minuses (inf s) y a c b d C D v w h = absurd v
-le-of-minuses (fin false m e) y a c b d C D v w h = absurd (true≢false (sym (v .0)))
-le-of-minuses (fin true m e) nan a c b d C D v w h = absurd w
-le-of-minuses (fin true m e) (inf t) a c b d C D v w h = absurd w
-le-of-minuses (fin true m e) (fin false n g) a c b d C D v w h = absurd (true≢false (sym (w .0)))
-le-of-minuses (fin true m e) (fin true n g) a c b d C D v w h =
-    go (m * up e * down g) (n * up g * down e) (transfer (n * up g) (m * up e) (down g) (down e) b a d c D C (w .1) (v .1) h)
-  where
-    go : (p q : ℕ) → q ≤ p → T (ltb q p || (eqb p q && true))
-    go p q k = elim (eq-or-lt-of-le k) [ inl e ↦ or-right (ltb q p) (eqb p q && true) (subst (λ (z : ℕ). T (eqb p z && true)) (sym e) (subst (λ (t : Bool). T (t && true)) (sym (eq-eqb p p refl)) tt)) | inr l ↦ or-left (ltb q p) (eqb p q && true) (lt→ltb q p l) ]

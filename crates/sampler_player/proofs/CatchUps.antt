@@ -15,7 +15,7 @@ use Rattle.sampler_player.specs.inner.Kept.{kept}
 use Rattle.sampler_player.proofs.Assign.{back-completed}
 use Rattle.sampler_player.proofs.Passes.{going, Each, each-pass}
 use Rattle.sampler_player.proofs.Pass.{caught-few}
-use Rattle.sampler_player.proofs.Enough.{Sound, pass-sound}
+use Rattle.sampler_player.proofs.Enough.{Sound, pass-sound, starts}
 
 -- n passes that catch up from g on: if there are any, the loops are below 2^27 after them
 abbrev Few : Going → ℕ → Type 0
@@ -62,12 +62,8 @@ module _ (s : Setup) (b : Lent) (lo : 8000 ≤ s .rate) (hi : s .rate ≤ 96000)
   -- a segment of frames of the x that are still to come, as in proofs/Enough; with `segment`'s own bound for f it is the whole segment
   pub catch-ups-few : (x : ℕ) → x ≤ 4096 → (g : Going) → g .remaining ≤ x → kept s x (g .player) ≡ true → (f : ℕ) → catchUps (clockAt (s .rate)) s b f g < 2 ^ 27
   catch-ups-few x small g inside k f =
-      let X = x - g .remaining in
-      below (catchUps (clockAt (s .rate)) s b f g) (few s b lo hi table X f g (record { is = subst (λ (y : ℕ). kept s y (g .player) ≡ true) split k; few = omega arith }))
+      below (catchUps (clockAt (s .rate)) s b f g) (few s b lo hi table (x - g .remaining) f g (starts s b lo hi table x small g inside k))
     where
-      split : x ≡ g .remaining + (x - g .remaining)
-      split = omega arith
-
       below : (n : ℕ) → Few g n → n < 2 ^ 27
       below zero h = omega arith
       below (suc n) h = let l = h (omega arith) in omega (arith, l)

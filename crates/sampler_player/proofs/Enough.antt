@@ -62,11 +62,14 @@ module _ (s : Setup) (b : Lent) (lo : 8000 ≤ s .rate) (hi : s .rate ≤ 96000)
 
   -- ---- a segment, of frames of the x that are still to come
   module _ (x : ℕ) (small : x ≤ 4096) (g : Going) (inside : g .remaining ≤ x) (k : kept s x (g .player) ≡ true) where
-    pub segment-sounds : Sound s (x - g .remaining) (segment (clockAt (s .rate)) s b g)
-    segment-sounds = segment-sound (x - g .remaining) g (record { is = subst (λ (y : ℕ). kept s y (g .player) ≡ true) split k; few = omega arith })
+    pub starts : Sound s (x - g .remaining) g
+    starts = record { is = subst (λ (y : ℕ). kept s y (g .player) ≡ true) split k; few = omega arith }
       where
         split : x ≡ g .remaining + (x - g .remaining)
         split = omega arith
+
+    segment-sounds : Sound s (x - g .remaining) (segment (clockAt (s .rate)) s b g)
+    segment-sounds = segment-sound (x - g .remaining) g starts
 
     pub segment-kept : kept s (x - g .remaining) (segment (clockAt (s .rate)) s b g .player) ≡ true
     segment-kept =

@@ -98,6 +98,3 @@ kept-good s p k =
 pub quiet-good : (s : Setup) → playerGood s quiet ≡ true
 unfolding playerGood
 quiet-good s = refl
-
-pub quiet-near : farBad quiet ≡ false
-quiet-near = refl

@@ -10,7 +10,7 @@ use Rattle.event_processor.specs.declared.Queue.{Queue}
 use Rattle.event_processor.specs.Queue.{pending, inOrder, each}
 use Rattle.sampler_player.specs.declared.Setup.{Setup}
 use Rattle.sampler_player.specs.Sound.{playerGood}
-use Rattle.sampler_player.specs.Assign.{quiet}
+use Rattle.sampler_player.proofs.Sound.{quiet-good}
 use Rattle.sampler_processor.specs.declared.Leg.{Leg}
 use Rattle.sampler_processor.specs.Numbers.{sizesBad, queueGood, sound}
 use Rattle.sampler_processor.specs.Calls.{fresh, blank}
@@ -63,10 +63,6 @@ unfolding queueGood
 none-waits s q e = rw e refl
 
 -- ---- fresh, and blank
-
-quiet-good : (s : Setup) → playerGood s quiet ≡ true
-unfolding playerGood
-quiet-good s = refl
 
 pub fresh-sound : (s : Setup) → sizesBad s ≡ false → sound (fresh s) ≡ true
 unfolding queueGood

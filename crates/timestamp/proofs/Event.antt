@@ -1,15 +1,12 @@
 -- An event's frame in a block: the floor of its own time, never behind what is rendered, always inside; and its delay. Times are counted from the block's start.
 -- The idea: d is the event's time, u the current one, after k pieces of p frames together; later events have no smaller d, so p * 2 ^ 32 ≤ d * R goes from each to the next. Assumes nothing.
-use mathlib.Core.Path.{_≡_, sym, ap, _∙_, subst}
+use mathlib.Core.Path.{_≡_, ap, _∙_}
 use Prim.Native.Nat.{ℕ, suc, _+_, _*_, _/_, _^_, _≤_, _<_, max}
-use native.Mathlib.Nat.{le-of-lt, lt-of-lt-of-le, lt-of-le-of-lt, le-mul-of-pos-right, mul-le-mul-right, max-eq-left, max-eq-right}
+use native.Mathlib.Nat.{le-of-lt, mul-le-mul-right, max-eq-left, max-eq-right}
 use native.Mathlib.Omega.{arith}
 use mathlib.Core.Bool.{Bool, true, false, not}
-use lib.Dec.{T, leb, leb→le, nleb→lt, lit≤}
-use lib.IntN.{pos}
-use Rattle.timestamp.specs.Time.{frameAt}
+use lib.Dec.{T, leb, leb→le, nleb→lt}
 use Rattle.laws.proofs.Near.{Near}
-use Rattle.timestamp.proofs.Frames.{S-floor}
 use Rattle.timestamp.proofs.Drift.{Drift}
 
 -- ---- the current time may be a few units past the event's, and that does not move the event's frame
@@ -33,24 +30,6 @@ event-after R p d h = omega arith
 -- what the next event starts from
 pub event-next : (R d e : ℕ) → d ≤ e → d * R / 2 ^ 32 * 2 ^ 32 ≤ e * R
 event-next R d e h = let m : d * R ≤ e * R = mul-le-mul-right R h in omega arith
-
--- ---- as floats: the whole part of S at the later of the two times
-floor-at : (R x : ℕ) → 0 < R → R < 2 ^ 18 → x * R < 2 ^ 53 → frameAt R (pos x) ≡ x * R / 2 ^ 32
-floor-at R x r r' h = S-floor R x (lt-of-lt-of-le r' (lit≤ tt)) (lt-of-le-of-lt (le-mul-of-pos-right x r) h) h
-
-event-short : (R N t k p u d : ℕ) → R < 2 ^ 18 → Near t (N * 2 ^ 32) R → N < 8 * R → p ≤ N → d < t → k * R < 2 ^ 32 → Drift R k p u → (d * R < 2 ^ 53) × (u * R < 2 ^ 53)
-event-short R N t k p u d r n h q l s a = let m : suc d * R ≤ t * R = mul-le-mul-right R l in omega arith
-
-pub event-floor : (R N t k p u d : ℕ) → 0 < R → R < 2 ^ 18 → N < 8 * R → Near t (N * 2 ^ 32) R → d < t → p ≤ N → k * R < 2 ^ 32 → Drift R k p u → p * 2 ^ 32 ≤ d * R
-    → frameAt R (pos (max d u)) ≡ d * R / 2 ^ 32
-event-floor R N t k p u d r r' h n l q s a e = floor-at R (max d u) r r' (go (leb d u) (leb→le d u) (nleb→lt d u)) ∙ event-frame R k p u d s a e
-  where
-    both : (d * R < 2 ^ 53) × (u * R < 2 ^ 53)
-    both = event-short R N t k p u d r' n h q l s a
-
-    go : (b : Bool) → (T b → d ≤ u) → (T (not b) → u < d) → max d u * R < 2 ^ 53
-    go true f g = subst (λ (z : ℕ). z * R < 2 ^ 53) (sym (max-eq-right (f tt))) (both .1)
-    go false f g = subst (λ (z : ℕ). z * R < 2 ^ 53) (sym (max-eq-left (le-of-lt (g tt)))) (both .0)
 
 -- ---- the delay after the pieces up to the event's frame: v units are gone then, and v - d is above minus a frame and k / 2 units, and k / 2 units at most
 pub event-delay : (R k d v : ℕ) → Drift R k (d * R / 2 ^ 32) v → (2 * (d * R) < 2 * (v * R) + 2 ^ 33 + k * R) × (2 * (v * R) ≤ 2 * (d * R) + k * R)

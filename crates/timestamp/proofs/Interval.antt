@@ -1,8 +1,8 @@
--- The frames from a position to the nearer of two stops, in whole numbers (`interval-int`); exactly when there are none (`interval-none`, `interval-some`); and, while the
--- errors stay below half a frame, what whole-frame arithmetic gives (`interval-whole`). The idea: position and end as differences with one subtrahend. Assumes nothing.
+-- The frames from a position to the nearer of two stops, in whole numbers (`interval-int`); and exactly when there are none (`interval-none`, `interval-some`).
+-- The idea: position and end as differences with one subtrahend. Assumes nothing.
 use mathlib.Core.Path.{_≡_, refl, sym, ap, _∙_, subst}
 use Prim.Native.Nat.{ℕ, suc, _+_, _-_, _*_, _/_, _^_, _≤_, _<_, min}
-use native.Mathlib.Nat.{not-le-of-lt, add-mul, le-min, zero-min, le-of-lt, lt-of-lt-of-le, mul-le-mul-right, min-comm, min-eq-left, sub-eq-zero-of-le, zero-mul, add-zero}
+use native.Mathlib.Nat.{not-le-of-lt, add-mul, le-min, zero-min, le-of-lt, lt-of-lt-of-le, mul-le-mul-right, sub-eq-zero-of-le, zero-mul, add-zero}
 use native.Mathlib.Omega.{arith}
 use mathlib.Core.Bool.{Bool, true, false, not, cond}
 use lib.Dec.{T, leb, leb→le, nleb→lt, lit≤}
@@ -14,28 +14,11 @@ use Rattle.laws.proofs.Operations.{sub-mul}
 use Rattle.timestamp.proofs.Values.{roundOf-neg}
 use Rattle.timestamp.proofs.Time.{T-near}
 use Rattle.timestamp.proofs.Frames.{L, framesN, S-round, S-value-neg, short, near-frame}
-use Rattle.timestamp.proofs.Drift.{Drift}
 use Rattle.laws.proofs.Minus.{Minus, plus-minus, less-minus, earlier-minus, minus-pos, minus-negsuc}
 
 -- from position P, of `left` frames, up to the end E: "round S(smaller of position + T(remaining) and E, minus position), at most remaining"
 abbrev pub interval : ℕ → ℤ → ℤ → ℕ → ℕ
 interval R P E left = min (frameNear R (earlier (P +ℤ timeOf R left) E -ℤ P)) left
-
--- ---- the three cases: u units, and n frames, are gone; A units, and e frames, is the end; t units, and l frames, are left
--- all that is left comes before the end
-pub ends : (R i j n u e A l t : ℕ) → (i + j + 2) * R < 2 ^ 32 → Drift R i n u → Drift R j e A → Near t (l * 2 ^ 32) R → u + t ≤ A → l ≤ e - n
-ends R i j n u e A l t s p q r h = let k : (u + t) * R ≤ A * R = mul-le-mul-right R h in omega arith
-
--- the end comes first, in d units
-piece : (R i j n u e A d : ℕ) → (i + j + 2) * R < 2 ^ 32 → Drift R i n u → Drift R j e A → d + u ≡ A → (2 * (d * R) + 2 ^ 32) / 2 ^ 33 ≡ e - n
-piece R i j n u e A d s p q h = let k : (d + u) * R ≡ A * R = ap (λ (z : ℕ). z * R) h in omega arith
-
-piece-le : (R i j n u e A l t : ℕ) → (i + j + 2) * R < 2 ^ 32 → Drift R i n u → Drift R j e A → Near t (l * 2 ^ 32) R → A < u + t → e - n ≤ l
-piece-le R i j n u e A l t s p q r h = let k : A * R ≤ (u + t) * R = mul-le-mul-right R (le-of-lt h) in omega arith
-
--- the end is past
-past : (R i j n u e A : ℕ) → (i + j + 2) * R < 2 ^ 32 → Drift R i n u → Drift R j e A → A < u → e - n ≡ 0
-past R i j n u e A s p q h = let k : A * R ≤ u * R = mul-le-mul-right R (le-of-lt h) in omega arith
 
 -- ---- the nearest frame to a time of either sign
 frames-pos : (R t x : ℕ) → R < 2 ^ 18 → t < 2 ^ 35 → (2 * (t * R) + 2 ^ 32) / 2 ^ 33 ≡ x → roundOf (framesOf R (pos t)) ≡ x
@@ -99,25 +82,6 @@ interval-int R l P E u A B r r' h small p q =
     let near = T-near R l r r' h in
     ap (λ (z : ℤ). min (roundOf (framesOf R (earlier (P +ℤ z) E -ℤ P))) l) (near .0)
     ∙ stop-int R l t (earlier (P +ℤ pos t) E -ℤ P) u A B r' small (short R l t r' h (near .1) .0) (near .1) (stop-minus P E u t A B p q)
-
--- ---- interval-whole: with the errors below half a frame it is the whole-frame number
-to-whole : (R i j l t u A n e : ℕ) → (i + j + 2) * R < 2 ^ 32 → Near t (l * 2 ^ 32) R → Drift R i n u → Drift R j e A → frames-to R l t u A ≡ min l (e - n)
-to-whole R i j l t u A n e s near a b = go (leb (u + t) A) (leb→le (u + t) A) (nleb→lt (u + t) A) (leb u A) (leb→le u A) (nleb→lt u A)
-  where
-    back : u ≤ A → A - u + u ≡ A
-    back k = omega arith
-
-    go : (x : Bool) → (T x → u + t ≤ A) → (T (not x) → A < u + t) → (y : Bool) → (T y → u ≤ A) → (T (not y) → A < u) → cond x l (min ((2 * ((A - u) * R) + 2 ^ 32) / 2 ^ 33) l) ≡ min l (e - n)
-    go true f g y f' g' = sym (min-eq-left (ends R i j n u e A l t s a b near (f tt)))
-    go false f g true f' g' = ap (λ (x : ℕ). min x l) (piece R i j n u e A (A - u) s a b (back (f' tt))) ∙ min-comm (e - n) l
-    go false f g false f' g' =
-        ap (λ (x : ℕ). min ((2 * (x * R) + 2 ^ 32) / 2 ^ 33) l) (sub-eq-zero-of-le (le-of-lt (g' tt)))
-        ∙ ap (λ (x : ℕ). min ((2 * x + 2 ^ 32) / 2 ^ 33) l) (zero-mul R) ∙ min-comm 0 l ∙ ap (λ (x : ℕ). min l x) (sym (past R i j n u e A s a b (g' tt)))
-
-pub interval-whole : (R i j l : ℕ) (P E : ℤ) (u A B n e : ℕ) → 0 < R → R < 2 ^ 18 → l < 8 * R → (i + j + 2) * R < 2 ^ 32 → u < 2 ^ 50
-    → Minus P u B → Minus E A B → Drift R i n u → Drift R j e A → interval R P E l ≡ min l (e - n)
-interval-whole R i j l P E u A B n e r r' h s small p q a b =
-    interval-int R l P E u A B r r' h small p q ∙ to-whole R i j l (closest (l * 2 ^ 32) R) u A n e s (T-near R l r r' h .1) a b
 
 -- ---- an end that is later than all that is left
 all-left : (R l t u A : ℕ) → u + t ≤ A → frames-to R l t u A ≡ l

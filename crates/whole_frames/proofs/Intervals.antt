@@ -5,7 +5,7 @@ use Prim.Native.Nat.{ℕ, _+_, _-_, _*_, _^_, _≤_, min}
 use native.Mathlib.Nat.{add-zero, add-comm}
 use native.Mathlib.Omega.{arith}
 use mathlib.Core.Option.{Option, none, some}
-use lib.IntN.{ℤ, pos, negsuc, _+ℤ_, _-ℤ_, _*ℤ_}
+use lib.IntN.{ℤ, pos, _+ℤ_, _-ℤ_, _*ℤ_}
 use Rattle.laws.proofs.Near.{Near}
 use Rattle.laws.proofs.Minus.{Minus, plus-minus, less-minus, earlier-minus, nat-minus, minus-pos}
 use Rattle.timestamp.specs.declared.Timestamp.{Timestamp}
@@ -18,6 +18,7 @@ use Rattle.sampler_player.specs.declared.Setup.{Setup}
 use Rattle.sampler_player.specs.declared.Player.{Player}
 use Rattle.sampler_player.specs.Clock.{clockAt, wholeFrames, notNegative}
 use Rattle.sampler_player.specs.Pieces.{endOf, nearer, interval}
+use Rattle.sampler_player.proofs.Sized.{above-minus}
 use Rattle.whole_frames.specs.Whole.{Loop, noLoop, loop, pointsIn, Budget}
 use Rattle.whole_frames.proofs.Late.{to}
 use Rattle.whole_frames.proofs.Ends.{record-piece, loop-piece}
@@ -27,16 +28,12 @@ use Rattle.whole_frames.proofs.Ends.{record-piece, loop-piece}
 abbrev pub asWhole : ℕ → ℕ → Loop → Player → Player
 asWhole n f q p = record { voices = p .voices; active = p .active; points = pointsIn q; position = record { bits = pos n }; start = record { bits = pos f }; completed = p .completed }
 
-not-negative : (z : ℤ) (a b : ℕ) → Minus z a b → notNegative z ≡ a - b
-not-negative (pos n) a b h = omega arith
-not-negative (negsuc n) a b h = omega arith
-
 -- up to an end A − B
 whole-to : (n l : ℕ) (E : ℤ) (A B : ℕ) → Minus E A B → min (notNegative (earlier (pos n +ℤ pos l) E -ℤ pos n)) l ≡ min l (A - (B + n))
 whole-to n l E A B h =
     let z = earlier (pos n +ℤ pos l) E -ℤ pos n in
     ap (λ (x : ℕ). min x l)
-    (not-negative z (min (n + l + B) A + 0) (B + n)
+    (above-minus z (min (n + l + B) A + 0) (B + n)
     (less-minus (earlier (pos n +ℤ pos l) E) (pos n) (min (n + l + B) A) B n 0 (earlier-minus (pos n +ℤ pos l) E (n + l + B) A B refl h) (add-zero n)))
     ∙ tidy n l A B
   where
