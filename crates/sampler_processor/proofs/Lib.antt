@@ -14,7 +14,7 @@ pub mod Output
 pub mod Answers
 pub mod Readings
 -- Events: each event below the block's end is applied, at its floor frame. Blocks: through a block what plays stays within its limits. Segments: how a segment counts its
--- pieces. Times: sums of times that fit. NoneDue: a block in which no event is due. Turns: what the block's loop carries. NoFrames: a block of no frames changes nothing. Renders: what a render
+-- pieces. Times: sums of times that fit. NoneDue: a block in which no event is due. Turns: what the block's loop carries, and Loops, as the code has it. NoFrames: a block of no frames changes nothing. Renders: what a render
 -- gives its block, and answers. Handed: the leg that a render hands back is sound. NoNan: no sample that it renders is a NaN.
 pub mod Events
 pub mod Segments
@@ -22,6 +22,7 @@ pub mod Blocks
 pub mod Times
 pub mod NoneDue
 pub mod Turns
+pub mod Loops
 pub mod NoFrames
 pub mod Renders
 pub mod Handed

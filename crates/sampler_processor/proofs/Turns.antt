@@ -7,6 +7,7 @@ use Prim.Native.Nat.{ℕ, zero, suc, _+_, _-_, _*_, _/_, _^_, _≤_, _<_}
 use native.Mathlib.Nat.{mul-le-mul-right, le-refl, le-trans, le-of-lt, le-of-eq, sub-le, sub-zero}
 use native.Mathlib.Omega.{arith}
 use borrow.Author.Tests.{lt-ltb, leb-true, le-leb}
+use lib.Dec.{lit≤}
 use lib.IntN.{ℤ, pos, negsuc, negℤ, natAbs, _+ℤ_, _-ℤ_}
 use lib.ListN.{length, drop, take, length-take}
 use lib.Signed.{ltZ, leZ}
@@ -35,7 +36,9 @@ use Rattle.sampler_player.proofs.Kept.{stands, stands-within}
 use Rattle.sampler_player.proofs.Enough.{segment-kept}
 use Rattle.sampler_player.proofs.Applied.{apply-kept}
 use Rattle.sampler_processor.specs.Numbers.{queueGood}
-use Rattle.sampler_processor.specs.Block.{Running, Ended, frameOf, blockEnd, upTo, applied, onward, block}
+use Rattle.sampler_processor.specs.Block.{Running, Ended, frameOf, opening, blockEnd, upTo, applied, past, onward, block}
+use Rattle.sampler_processor.specs.inner.Stands.{Reaches}
+use Rattle.sampler_processor.proofs.Times.{up-within, up-more}
 use Rattle.sampler_processor.proofs.Legs.{queued}
 use Rattle.sampler_processor.proofs.NoneDue.{none-due}
 use Rattle.sampler_processor.proofs.Events.{Ordered, Stands, end-is, below-end, frame-is, frame-ahead, stands-next, stands-first}
@@ -95,7 +98,7 @@ pub record Turn (s : Setup) (b : Lent) (s0 : ℕ) (Z : Ended) (q : Queue) (r : R
 
 pub turn-first : (s : Setup) (b : Lent) (s0 : ℕ) (q : Queue) (p : Player) (out : List Float) → 8000 ≤ s .rate → s .rate ≤ 96000 → 0 < b .block → b .block ≤ 4096 → length (b .table) ≡ s .fade
     → s0 ≤ 2 ^ 48 → kept s (b .block) p ≡ true → queueGood s q ≡ true → length (q .events) ≡ 16
-    → Turn s b s0 (block s b (pos s0) (pending q) q (record { player = p; out = out; done = 0; now = pos s0; pieces = 0 })) q (record { player = p; out = out; done = 0; now = pos s0; pieces = 0 })
+    → Turn s b s0 (block s b (pos s0) (pending q) q (opening p out (pos s0))) q (opening p out (pos s0))
 turn-first s b s0 q p out low high some few table soon k g e =
     let w = queued s q g in
     let n : length (pending q) ≤ 16 = le-trans (length-pending q) (w .few) in
@@ -125,15 +128,8 @@ no-event e h = let z : _≡_ {A = ℕ} 0 1 = cc in absurd (omega arith)
 
 -- ---- an event is due
 pub record Taken (s : Setup) (b : Lent) (s0 : ℕ) (Z : Ended) (q : Queue) (r : Running) (e : Event) : Type 0 where
-  pub t : ℕ
-  pub time : e .time .bits ≡ pos t
-  pub early : t ≤ 2 ^ 48
-  pub now : UpTo (2 ^ 49) (r .now)
-  pub ahead : r .done ≤ frameOf (s .rate) (pos s0) (r .now) (e .time .bits)
-  pub inside : frameOf (s .rate) (pos s0) (r .now) (e .time .bits) < b .block
-  pub places : positionsBad (e .kind) ≡ false
-  pub delay : within (negℤ (pos (2 ^ 20))) (pos (2 ^ 49)) (upTo s b (pos s0) (frameOf (s .rate) (pos s0) (r .now) (e .time .bits)) r .now -ℤ e .time .bits) ≡ true
-  pub next : Turn s b s0 Z (without q) (applied s b (pos s0) e (upTo s b (pos s0) (frameOf (s .rate) (pos s0) (r .now) (e .time .bits)) r))
+  pub reaches : Reaches s b (pos s0) e r
+  pub next : Turn s b s0 Z (without q) (past s b (pos s0) e r)
 
 -- a delay that is in its limits with frames to come fits the limits of the call
 shorter : (x : ℕ) (z : ℤ) → x ≤ 4096 → within (negℤ (pos (2 ^ 20))) (pos (2 ^ 48 + 2 ^ 34 - x * 2 ^ 20)) z ≡ true → within (negℤ (pos (2 ^ 20))) (pos (2 ^ 49)) z ≡ true
@@ -150,7 +146,7 @@ module _ (s : Setup) (b : Lent) (s0 : ℕ) (Z : Ended) (q : Queue) (r : Running)
       record { is = subst (λ (z : ℤ). z ≡ pos (natAbs z)) (sym (u .at .now)) refl; most = subst (λ (z : ℤ). natAbs z ≤ 2 ^ 49) (sym (u .at .now)) (sum (u .at .u) w) }
     where
       early : (v done k : ℕ) → 2 * (v * s .rate) ≤ 2 * (done * 2 ^ 32) + k * s .rate → done < b .block → k ≤ 16 → v ≤ 2 ^ 48
-      early v done k d i j = native.Mathlib.Nat.le-of-mul-le-mul-right {k = s .rate} (wide v done k d i (mul-le-mul-right (s .rate) j)) (native.Mathlib.Nat.lt-of-lt-of-le (lib.Dec.lit≤ tt) (u .low))
+      early v done k d i j = native.Mathlib.Nat.le-of-mul-le-mul-right {k = s .rate} (wide v done k d i (mul-le-mul-right (s .rate) j)) (native.Mathlib.Nat.lt-of-lt-of-le (lit≤ tt) (u .low))
         where
           wide : (v done k : ℕ) → 2 * (v * s .rate) ≤ 2 * (done * 2 ^ 32) + k * s .rate → done < b .block → k * s .rate ≤ 16 * s .rate → v * s .rate ≤ 2 ^ 48 * s .rate
           wide v done k d i j = let l = u .low in let f = u .few-frames in omega arith
@@ -158,9 +154,12 @@ module _ (s : Setup) (b : Lent) (s0 : ℕ) (Z : Ended) (q : Queue) (r : Running)
       sum : (v : ℕ) → v ≤ 2 ^ 48 → s0 + v ≤ 2 ^ 49
       sum v h = let o = u .soon in omega arith
 
+  pub pieces-few : r .pieces ≤ 2 ^ 32
+  pieces-few = le-trans (u .pieces) (le-trans (le-of-lt (u .at .inside)) (le-trans (u .few-frames) (lit≤ tt)))
+
   -- one step of the definition
   step : (x : Event) (xs : List Event) → ltZ (x .time .bits) (blockEnd s b (pos s0)) ≡ true
-      → block s b (pos s0) (x ∷ xs) q r ≡ block s b (pos s0) xs (without q) (applied s b (pos s0) x (upTo s b (pos s0) (frameOf (s .rate) (pos s0) (r .now) (x .time .bits)) r))
+      → block s b (pos s0) (x ∷ xs) q r ≡ block s b (pos s0) xs (without q) (past s b (pos s0) x r)
   unfolding block
   step x xs h =
       ap₂ (λ (y z : Bool). onward s b (pos s0) (λ w t. block s b (pos s0) xs w t) x q r (y && z)) (lt-ltb (r .done) (b .block) (u .at .inside)) h
@@ -239,16 +238,21 @@ module _ (s : Setup) (b : Lent) (s0 : ℕ) (Z : Ended) (q : Queue) (r : Running)
             },
       ) in
       let at = subst (Next x) (sym e) at-F in
+      let up = time-up x (passed (s .rate) (s .fade) x (d .0) .time) in
       record {
-        t = t;
-        time = o .1;
-        early = subst (λ (i : ℤ). natAbs i ≤ 2 ^ 48) (o .1) (time-up x (passed (s .rate) (s .fade) x (d .0) .time) .most);
-        now = now-up;
-        ahead = at .0;
-        inside = at .1;
-        places = a .0 .0;
-        delay = at .2;
-        next = at .3 (ap (λ (l : List Event). block s b (pos s0) l (without q) (applied s b (pos s0) x (upTo s b (pos s0) (frameOf (s .rate) (pos s0) (r .now) (x .time .bits)) r))) w ∙ sym (step x xs h) ∙ ap (λ (l : List Event). block s b (pos s0) l q r) (sym p) ∙ u .is);
+        reaches =
+            record {
+              from = up-within (2 ^ 49) (pos s0) (record { is = refl; most = le-trans (u .soon) (lit≤ tt) });
+              now = up-within (2 ^ 49) (r .now) now-up;
+              time = up-within (2 ^ 49) (x .time .bits) (up-more (2 ^ 48) (2 ^ 49) (x .time .bits) (lit≤ tt) up);
+              limits = u .inside;
+              pieces = pieces-few;
+              places = a .0 .0;
+              ahead = at .0;
+              inside = le-of-lt (at .1);
+              delay = yes (at .2);
+            };
+        next = at .3 (ap (λ (l : List Event). block s b (pos s0) l (without q) (past s b (pos s0) x r)) w ∙ sym (step x xs h) ∙ ap (λ (l : List Event). block s b (pos s0) l q r) (sym p) ∙ u .is);
       }
     where
       few-left : (d : ℕ) → b .block - d ≤ 4096

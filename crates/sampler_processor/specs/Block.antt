@@ -28,6 +28,10 @@ pub record Running : Type 0 where
   pub now : ℤ
   pub pieces : ℕ
 
+-- a block at its first frame
+abbrev pub opening : Player → List Float → ℤ → Running
+opening p out start = record { player = p; out = out; done = 0; now = start; pieces = 0 }
+
 -- a block at its end, with the events that wait on
 pub record Ended : Type 0 where
   pub running : Running
@@ -64,13 +68,17 @@ module _ (s : Setup) (b : Lent) (start : ℤ) where
         pieces = r .pieces;
       }
 
+  -- one event further: the frames up to its own, then the event
+  abbrev pub past : Event → Running → Running
+  past e r = applied e (upTo (frameOf (s .rate) start (r .now) (e .time .bits)) r)
+
   -- "While frames remain, the first event with time below that end is taken"
   abbrev pub isTaken : Event → Running → Bool
   isTaken e r = ltb (r .done) (b .block) && ltZ (e .time .bits) blockEnd
 
   -- on with the rest of the queue, or the block's last frames
   abbrev pub onward : (Queue → Running → Ended) → Event → Queue → Running → Bool → Ended
-  onward go e q r true = go (without q) (applied e (upTo (frameOf (s .rate) start (r .now) (e .time .bits)) r))
+  onward go e q r true = go (without q) (past e r)
   onward go e q r false = record { running = upTo (b .block) r; queue = q }
 
   -- the list is the events that wait in the queue, first to last

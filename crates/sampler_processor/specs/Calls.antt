@@ -18,7 +18,7 @@ use Rattle.sampler_processor.specs.declared.Leg.{Leg}
 use Rattle.sampler_processor.specs.declared.LegAnswer.{LegAnswer}
 use Rattle.sampler_processor.specs.declared.RenderAnswer.{RenderAnswer}
 use Rattle.sampler_processor.specs.Numbers.{sound, makeOrder, renderOrder}
-use Rattle.sampler_processor.specs.Block.{Running, Ended, block}
+use Rattle.sampler_processor.specs.Block.{Ended, opening, block}
 
 abbrev pub legAnswer : ℕ → Leg → LegAnswer
 legAnswer n l = record { number = n; leg = l }
@@ -71,7 +71,7 @@ renderedTo s e =
 
 abbrev pub renderedBy : ℕ → Leg → Lent → List Float → ℤ → Rendered
 renderedBy zero l b out start =
-    renderedTo (l .setup) (block (l .setup) b start (pending (l .queue)) (l .queue) (record { player = l .player; out = out; done = 0; now = start; pieces = 0 }))
+    renderedTo (l .setup) (block (l .setup) b start (pending (l .queue)) (l .queue) (opening (l .player) out start))
 renderedBy (suc n) l b out start = record { answer = record { number = suc n; leg = l; pieces = 0 }; out = out }
 
 unfoldable pub render : Leg → Lent → List Float → ℤ → Rendered

@@ -19,11 +19,11 @@ ghost use Rattle.sampler_event.specs.Limits.{positionsBad};
 ghost use Rattle.event_processor.specs.Queue.{pending, firstBefore, isDue};
 ghost use Rattle.sampler_player.specs.inner.Kept.{kept};
 ghost use Rattle.sampler_processor.specs.Numbers.{queueGood};
-ghost use Rattle.sampler_processor.specs.Block.{frameOf, upTo};
+ghost use Rattle.sampler_processor.specs.Block.{frameOf, opening, upTo, past};
 ghost use Rattle.sampler_processor.specs.Block.{block as blockOf};
 ghost use Rattle.sampler_player.specs.inner.Lending.{Ready};
 ghost use Rattle.sampler_player.specs.Pieces.{lending};
-ghost use Rattle.sampler_processor.specs.inner.Stands.{running, appliedTo, leftOf};
+ghost use Rattle.sampler_processor.specs.inner.Stands.{running, appliedTo, Reaches, leftOf};
 
 // Where a block stands: what plays, the frames rendered, the current time, the pieces so far.
 pub struct Stand {
@@ -123,6 +123,28 @@ fn applied_to(at: Stand, event: Event, rate: usize) -> Stand
     }
 }
 
+// One event that is due: the frames up to its own, and then the event.
+fn past_event(
+    at: Stand,
+    event: Event,
+    setup: Setup,
+    rec: &[f32],
+    fade: &[f32],
+    channels: usize,
+    block: usize,
+    out: &mut [f32],
+    start: Timestamp,
+) -> Stand
+    requires { ⌜ Ready setup (lending (now rec) (now fade) channels block) (now out) ⌝ }
+    requires { ⌜ Reaches setup (lending (now rec) (now fade) channels block) (start .bits) event (running at (now out)) ⌝ }
+    ensures { λ r. ⌜ running r (now (out .exit)) ≡ past setup (lending (now (rec .entry)) (now (fade .entry)) channels block) (start .bits) event (running at (now (out .entry))) ⌝ }
+{
+    let rate = setup.rate;
+    let frame = event_frame(start, at.now, event.time, rate);
+    let reached = up_to(at, setup, frame, rec, fade, channels, block, out, start);
+    applied_to(reached, event, rate)
+}
+
 // The block: each event below its end, at its frame, and then the frames that are left.
 pub fn run_block(
     setup: Setup,
@@ -138,10 +160,9 @@ pub fn run_block(
     requires { ⌜ Ready setup (lending (now rec) (now fade) channels block) (now out) ⌝ }
     requires { ⌜ 0 < block ⌝ ∗ ⌜ T (within (pos 0) (pos (2 ^ 48)) (start .bits)) ⌝ }
     requires { ⌜ kept setup block player ≡ true ⌝ ∗ ⌜ queueGood setup queue ≡ true ⌝ }
-    ensures { λ r. ⌜ record { end = r; out = now (out .exit) } ≡ leftOf (blockOf setup (lending (now (rec .entry)) (now (fade .entry)) channels block) (start .bits) (pending queue) queue (record { player = player; out = now (out .entry); done = 0; now = start .bits; pieces = 0 })) ⌝ }
+    ensures { λ r. ⌜ record { end = r; out = now (out .exit) } ≡ leftOf (blockOf setup (lending (now (rec .entry)) (now (fade .entry)) channels block) (start .bits) (pending queue) queue (opening player (now (out .entry)) (start .bits))) ⌝ }
 {
-    let rate = setup.rate;
-    let end = frames_later(start, block, rate);
+    let end = frames_later(start, block, setup.rate);
     let mut at = Stand {
         player,
         done: 0,
@@ -154,9 +175,7 @@ pub fn run_block(
         let first = taken.first;
         match first {
             First::Due(event) => {
-                let frame = event_frame(start, at.now, event.time, rate);
-                let reached = up_to(at, setup, frame, rec, fade, channels, block, out, start);
-                at = applied_to(reached, event, rate);
+                at = past_event(at, event, setup, rec, fade, channels, block, out, start);
                 waiting = taken.queue;
             }
             First::Nothing => {
