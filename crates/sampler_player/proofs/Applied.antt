@@ -4,19 +4,15 @@ use Prim.Native.Nat.{ℕ, _+_, _-_, _*_, _^_, _≤_}
 use native.Mathlib.Nat.{add-zero}
 use native.Mathlib.Omega.{arith}
 use mathlib.Core.Path.{_≡_, refl, sym, ap, subst}
-use mathlib.Core.Bool.{Bool, cond, false≢true, _||_, true, false, not}
+use mathlib.Core.Bool.{true, false, not}
 use borrow.Author.Tests.{not-false}
-use lib.Dec.{eqb}
 use lib.IntN.{ℤ, pos, negℤ, natAbs, _+ℤ_}
 use Rattle.laws.proofs.Minus.{Minus, above, below, parts, plus-minus}
 use Rattle.timestamp.specs.declared.Timestamp.{Timestamp}
-use Rattle.sampler_event.specs.declared.Event.{Event}
 use Rattle.sampler_event.specs.declared.Kind.{Kind}
 use Rattle.sampler_event.specs.declared.Kind.the-variants.{Start, StartImmediate, Stop, EnableLoop, CancelLoop, CancelAll}
 use Rattle.laws.specs.Rules.{within}
-use Rattle.sampler_event.specs.Limits.{timeBad, placeBad, positionsBad, loopBad, eventFault, admissible}
-use Rattle.sampler_event.specs.Events.{timed}
-use Rattle.sampler_event.specs.Record.{isZero}
+use Rattle.sampler_event.specs.Limits.{placeBad, positionsBad, loopBad}
 use Rattle.sampler_event.proofs.Limits.{place-up}
 use Rattle.sampler_player.specs.declared.Points.{Points}
 use Rattle.sampler_player.specs.declared.Points.the-variants.{Absent, Between}
@@ -28,7 +24,7 @@ use Rattle.sampler_player.specs.Events.{pointed, begun, apply}
 use Rattle.sampler_player.specs.Sound.{pointsGood}
 use Rattle.sampler_player.specs.inner.Kept.{kept}
 use Rattle.sampler_player.proofs.Kept.{opened, closed, loops-opened, loops-closed, stands, stands-within}
-use Rattle.laws.proofs.Tests.{both, one-of}
+use Rattle.laws.proofs.Tests.{both}
 use Rattle.sampler_player.proofs.Assigned.{stop-kept, assign-kept}
 
 -- the two parts of an event's effect that are not voices
@@ -76,15 +72,3 @@ module _ (s : Setup) (x : ℕ) where
     apply-kept (EnableLoop from end) z p h g d k = pointed-kept (Between from end) p (both (ap not h) (ap not g)) k
     apply-kept CancelLoop z p h g d k = pointed-kept Absent p refl k
     apply-kept CancelAll z p h g d k = pointed-kept Absent (stop p) refl (stop-kept s x p k)
-
--- ---- "each event admissible" says so of 10, 11 and 12
-none-broken : (a b c : Bool) → eqb (cond a 10 (cond b 11 (cond c 12 0))) 0 ≡ true → (a ≡ false) × (b ≡ false) × (c ≡ false)
-none-broken true b c h = absurd (false≢true h)
-none-broken false true c h = absurd (false≢true h)
-none-broken false false true h = absurd (false≢true h)
-none-broken false false false h = (refl, refl, refl)
-
-pub admitted : (R F : ℕ) (e : Event) → admissible R F e ≡ true → (timeBad e ≡ false) × (positionsBad (e .kind) ≡ false) × (loopBad R F (e .kind) ≡ false)
-unfolding admissible eventFault
-admitted R F e h =
-    none-broken (timeBad e) (positionsBad (e .kind)) (loopBad R F (e .kind)) (one-of (eqb (eventFault R F e) 0) (timed (e .kind) || isZero (e .time)) h)

@@ -1,13 +1,13 @@
 -- Through a whole block what plays stays within the limits of `kept`: so every segment's bound is enough, and the leg that is handed back is sound.
 -- The idea: `Stands` says how far the current time may be from the frames rendered, which bounds an event's delay. Assumes nothing.
 use mathlib.Core.Path.{_≡_, refl, sym, ap, _∙_, subst}
-use mathlib.Core.Bool.{Bool, true, false, not, _&&_}
+use mathlib.Core.Bool.{Bool, true, false, not, cond}
 use mathlib.Core.List.{List, [], _∷_}
 use Prim.Native.Nat.{ℕ, zero, suc, _+_, _-_, _*_, _/_, _^_, _≤_, _<_}
 use native.Mathlib.Nat.{mul-le-mul-right, mul-le-mul-left, le-refl, le-of-lt, sub-zero}
 use native.Mathlib.Omega.{arith}
 use lib.Dec.{T, leb, leb→le, nleb→lt}
-use lib.IntN.{ℤ, pos, negℤ, natAbs, _+ℤ_, _-ℤ_}
+use lib.IntN.{ℤ, pos, negℤ, _-ℤ_}
 use lib.ListN.{length}
 use lib.Signed.{ltZ}
 use lib.Ieee.{Float}
@@ -19,7 +19,9 @@ use Rattle.sampler_event.specs.declared.Kind.{Kind}
 use Rattle.laws.specs.Rules.{within}
 use Rattle.sampler_event.specs.Limits.{positionsBad, loopBad}
 use Rattle.event_processor.specs.declared.Queue.{Queue}
-use Rattle.event_processor.specs.Queue.{without}
+use Rattle.event_processor.specs.Queue.{inOrder, emptyQueue}
+use Rattle.event_processor.proofs.Front.{rest-order}
+use Rattle.event_processor.proofs.Ordered.{Ordered}
 use Rattle.sampler_player.specs.declared.Setup.{Setup}
 use Rattle.sampler_player.specs.declared.Player.{Player}
 use Rattle.sampler_player.specs.Clock.{clockAt}
@@ -27,8 +29,10 @@ use Rattle.sampler_player.specs.Events.{apply}
 use Rattle.sampler_player.specs.Pieces.{Lent, Going, segment}
 use Rattle.sampler_player.specs.inner.Kept.{kept}
 use Rattle.sampler_player.proofs.Kept.{stands-at, stands-within}
-use Rattle.sampler_processor.specs.Block.{Running, Ended, blockEnd, upTo, applied, block}
-use Rattle.sampler_processor.proofs.Events.{Ordered, Stands, exactFrame, onwardAt, blockAt, end-is, below-end, frame-ahead, stands-next, stands-first, same-block}
+use Rattle.sampler_processor.specs.Block.{Running, Ended, opening, blockEnd, upTo, applied, block}
+use Rattle.sampler_processor.specs.AtFrames.{below, toFrame}
+use Rattle.sampler_processor.proofs.Below.{rest-none}
+use Rattle.sampler_processor.proofs.Events.{Stands, end-is, below-end, frame-ahead, stands-next, stands-first, exact-is, through, stands-exact, same-block}
 
 -- what numbers 11 and 12 leave of each event
 abbrev pub Fit : Setup → Kind → Type 0
@@ -76,16 +80,6 @@ module _ (s : Setup) (b : Lent) (s0 : ℕ) (low : 8000 ≤ s .rate) (high : s .r
       (stands-at (b .block - r .done) (r .now -ℤ pos t) (s0 + j .u) t (omega arith)
       (subst (λ (z : ℤ). Minus (z -ℤ pos t) (s0 + j .u) t) (sym (j .now)) (nat-minus (s0 + j .u) t)) (omega arith) (omega arith))
 
-  -- "a start's delay is above minus a frame and 8 units": of an event at t, after at most 16 of them
-  pub delay-above : (t lo k : ℕ) (r : Running) → k ≤ 16 → r .done ≡ (t - s0) * s .rate / 2 ^ 32 → Stands s b s0 low high some-frames few-frames lo k r
-      → t * s .rate < natAbs (r .now) * s .rate + (2 ^ 32 + 8 * s .rate)
-  delay-above t lo k r q e j =
-      subst (λ (n : ℕ). t * s .rate < n * s .rate + (2 ^ 32 + 8 * s .rate)) (sym (ap natAbs (j .now)))
-      (above (t - s0) (j .u) (omega arith) (mul-le-mul-right (s .rate) q) (event-delay (s .rate) k (t - s0) (j .u) (subst (λ (y : ℕ). Drift (s .rate) k y (j .u)) e (j .drift)) .0))
-    where
-      above : (d u : ℕ) → t ≤ d + s0 → k * s .rate ≤ 16 * s .rate → 2 * (d * s .rate) < 2 * (u * s .rate) + 2 ^ 33 + k * s .rate → t * s .rate < (s0 + u) * s .rate + (2 ^ 32 + 8 * s .rate)
-      above d u h g f = let m : t * s .rate ≤ (d + s0) * s .rate = mul-le-mul-right (s .rate) h in omega arith
-
   -- ---- what plays
 
   pub reached : (f : ℕ) (r : Running) → r .done ≤ f → upTo s b (pos s0) f r .done ≡ f
@@ -123,34 +117,40 @@ module _ (s : Setup) (b : Lent) (s0 : ℕ) (low : 8000 ≤ s .rate) (high : s .r
         (subst (λ (y : ℤ). Delayed (b .block - f) (u .now -ℤ y)) (sym h) (subst (λ (x : ℕ). Delayed (b .block - x) (u .now -ℤ pos t)) d z))
         (up-to-kept f r (v .0) (le-of-lt (v .1)) p)
 
-    block-kept : (l : List Event) (q : Queue) (lo k : ℕ) (r : Running) → Ordered lo l → AllFit s l → k + length l ≤ 20
+    -- each event below the end, and the frames that are left
+    abbrev Ends : List Event → Running → Type 0
+    Ends due r = kept s (b .block - b .block) (through s b s0 low high some-frames few-frames due emptyQueue r .running .player) ≡ true
+
+    block-kept : (l : List Event) (lo k : ℕ) (r : Running) → Ordered lo l → inOrder l ≡ true → AllFit s l → k + length l ≤ 20
         → Stands s b s0 low high some-frames few-frames lo k r
         → kept s (b .block - r .done) (r .player) ≡ true
-        → kept s (b .block - b .block) (blockAt s b s0 l q r .running .player) ≡ true
-    unfolding blockAt exactFrame
-    block-kept [] q lo k r o a n i p = up-to-kept (b .block) r (le-of-lt (i .inside)) (le-refl _) p
-    block-kept (e ∷ es) q lo k r o a n i p =
-        next (λ w t. blockAt s b s0 es w t) (λ w x j c. block-kept es w (o .0) (suc k) x (o .3) (a .1) (omega arith) j c) (ltZ (e .time .bits) (blockEnd s b (pos s0))) refl
+        → Ends (below (blockEnd s b (pos s0)) l) r
+    block-kept [] lo k r o m a n i p = up-to-kept (b .block) r (le-of-lt (i .inside)) (le-refl _) p
+    block-kept (e ∷ es) lo k r o m a n i p =
+        next (below (blockEnd s b (pos s0)) es) (rest-none (blockEnd s b (pos s0)) e es m) (λ x j c. block-kept es (o .0) (suc k) x (o .3) (rest-order (e ∷ es) m) (a .1) (omega arith) j c)
+        (ltZ (e .time .bits) (blockEnd s b (pos s0))) refl
       where
-        next : (go : Queue → Running → Ended)
-            → ((w : Queue) (x : Running) → Stands s b s0 low high some-frames few-frames (o .0) (suc k) x → kept s (b .block - x .done) (x .player) ≡ true → kept s (b .block - b .block) (go w x .running .player) ≡ true)
-            → (x : Bool) → ltZ (e .time .bits) (blockEnd s b (pos s0)) ≡ x → kept s (b .block - b .block) (onwardAt s b s0 go e q r x .running .player) ≡ true
-        next go ih false h = up-to-kept (b .block) r (le-of-lt (i .inside)) (le-refl _) p
-        next go ih true h =
-            let m = below-end s b s0 low high some-frames few-frames e (o .0) (o .1) h in
+        next : (due : List Event) → (ltZ (e .time .bits) (blockEnd s b (pos s0)) ≡ false → due ≡ [])
+            → ((x : Running) → Stands s b s0 low high some-frames few-frames (o .0) (suc k) x → kept s (b .block - x .done) (x .player) ≡ true → Ends due x)
+            → (y : Bool) → ltZ (e .time .bits) (blockEnd s b (pos s0)) ≡ y → Ends (cond y (e ∷ due) due) r
+        next due none ih false h = subst (λ (l : List Event). Ends l r) (sym (none h)) (up-to-kept (b .block) r (le-of-lt (i .inside)) (le-refl _) p)
+        next due none ih true h =
+            let w = below-end s b s0 low high some-frames few-frames e (o .0) (o .1) h in
             let f = (o .0 - s0) * s .rate / 2 ^ 32 in
-            let j = stands-next s b s0 low high some-frames few-frames e (o .0) lo k r (o .2) m i in
-            let v = frame-ahead s b s0 low high some-frames few-frames (o .0) lo k r (o .2) m i in
-            let c = event-kept e (o .0) lo k r (o .1) (o .2) m (omega arith) (a .0) i p in
+            let v = frame-ahead s b s0 low high some-frames few-frames (o .0) lo k r (o .2) w i in
+            let c = event-kept e (o .0) lo k r (o .1) (o .2) w (omega arith) (a .0) i p in
             let y = applied s b (pos s0) e (upTo s b (pos s0) f r) in
-            subst
-            (λ (z : ℤ). kept s (b .block - b .block) (go (without q) (applied s b (pos s0) e (upTo s b (pos s0) ((natAbs z - s0) * s .rate / 2 ^ 32) r)) .running .player) ≡ true)
-            (sym (o .1)) (ih (without q) y j (subst (λ (x : ℕ). kept s (b .block - x) (y .player) ≡ true) (sym (applied-done e (upTo s b (pos s0) f r) ∙ reached f r (v .0))) c))
+            let d : kept s (b .block - y .done) (y .player) ≡ true =
+            subst (λ (x : ℕ). kept s (b .block - x) (y .player) ≡ true) (sym (applied-done e (upTo s b (pos s0) f r) ∙ reached f r (v .0))) c in
+            ih (applied s b (pos s0) e (toFrame s b (pos s0) e r))
+            (stands-exact s b s0 low high some-frames few-frames e (o .0) lo k r (o .1) (o .2) h (omega arith) i)
+            (subst (λ (x : ℕ). kept s (b .block - applied s b (pos s0) e (upTo s b (pos s0) x r) .done) (applied s b (pos s0) e (upTo s b (pos s0) x r) .player) ≡ true)
+            (sym (exact-is s b s0 low high some-frames few-frames e (o .0) (o .1))) d)
 
     -- through a whole block of the definition
-    pub kept-through : (l : List Event) (q : Queue) (p : Player) (out : List Float) → Ordered 0 l → AllFit s l → length l ≤ 16 → kept s (b .block) p ≡ true
-        → kept s (b .block - b .block) (block s b (pos s0) l q (record { player = p; out = out; done = 0; now = pos s0; pieces = 0 }) .running .player) ≡ true
-    kept-through l q p out o a n i =
-        subst (λ (e : Ended). kept s (b .block - b .block) (e .running .player) ≡ true) (sym (same-block s b s0 low high some-frames few-frames l q p out o n))
-        (block-kept l q 0 0 (record { player = p; out = out; done = 0; now = pos s0; pieces = 0 }) o a (omega arith) (stands-first s b s0 low high some-frames few-frames p out 0)
+    pub kept-through : (l : List Event) (q : Queue) (p : Player) (out : List Float) → Ordered 0 l → inOrder l ≡ true → AllFit s l → length l ≤ 16 → kept s (b .block) p ≡ true
+        → kept s (b .block - b .block) (block s b (pos s0) l q (opening p out (pos s0)) .running .player) ≡ true
+    kept-through l q p out o m a n i =
+        subst (λ (e : Ended). kept s (b .block - b .block) (e .running .player) ≡ true) (sym (same-block s b s0 low high some-frames few-frames l q p out o m n))
+        (block-kept l 0 0 (opening p out (pos s0)) o m a (omega arith) (stands-first s b s0 low high some-frames few-frames p out 0)
         (subst (λ (x : ℕ). kept s x p ≡ true) (sym (sub-zero (b .block))) i))

@@ -1,20 +1,20 @@
--- "in a block of 1 frame or more, every event with time below the end is applied, at floor((time−start)·R/2^32), or at 0 if late": the definition's block is `blockAt`, which says just that.
+-- The definition's block is the events below its end, each at its frame by whole numbers, and then the frames that are left.
 -- The idea: after k events the current time is within k / 2 units of the frames rendered (`Stands`), too little to move a floor. Assumes nothing.
 use mathlib.Core.Path.{_≡_, refl, sym, ap, _∙_, subst}
 use mathlib.Core.Bool.{Bool, true, false, not, cond, _&&_}
 use mathlib.Core.List.{List, [], _∷_}
 use Prim.Native.Nat.{ℕ, zero, suc, _+_, _-_, _*_, _/_, _^_, _≤_, _<_, max}
-use native.Mathlib.Nat.{mul-le-mul-left, mul-le-mul-right, le-trans, le-refl, lt-of-lt-of-le, add-zero}
+use native.Mathlib.Nat.{mul-le-mul-left, mul-le-mul-right, le-trans, le-refl, add-zero, zero-mul, zero-div}
 use native.Mathlib.Omega.{arith}
 use borrow.Author.Tests.{lt-ltb, ltb-true}
 use lib.Dec.{T, ltb, ltb→lt, nltb→le, lit≤}
-use lib.IntN.{ℤ, pos, natAbs, _+ℤ_, _-ℤ_}
+use lib.IntN.{ℤ, pos, negsuc, _+ℤ_, _-ℤ_}
 use lib.ListN.{length}
 use lib.Signed.{ltZ}
 use lib.Ieee.{Float}
 use lib.Ieee.Nearest.{closest}
 use Rattle.laws.proofs.Near.{Near}
-use Rattle.laws.proofs.Minus.{nat-minus, minus-pos}
+use Rattle.laws.proofs.Minus.{Minus, nat-minus, minus-pos}
 use Rattle.timestamp.specs.Time.{timeOf, frameAt, later}
 use Rattle.timestamp.proofs.Time.{T-near}
 use Rattle.timestamp.proofs.Frames.{S-floor}
@@ -22,49 +22,17 @@ use Rattle.timestamp.proofs.Drift.{Drift, one-more}
 use Rattle.timestamp.proofs.Event.{event-frame, event-inside, event-after, event-next}
 use Rattle.sampler_event.specs.declared.Event.{Event}
 use Rattle.event_processor.specs.declared.Queue.{Queue}
-use Rattle.event_processor.specs.Queue.{without}
+use Rattle.event_processor.specs.Queue.{without, inOrder}
+use Rattle.event_processor.proofs.Front.{rest-order}
+use Rattle.event_processor.proofs.Ordered.{Ordered}
 use Rattle.sampler_player.specs.declared.Setup.{Setup}
 use Rattle.sampler_player.specs.declared.Player.{Player}
 use Rattle.sampler_player.specs.Pieces.{Lent}
-use Rattle.sampler_processor.specs.Block.{Running, Ended, frameOf, blockEnd, upTo, applied, onward, block}
-
--- ---- the block by whole numbers: each event below the end, at its floor; 0 if late, since `-` on ℕ stops at 0
-unfoldable pub exactFrame : ℕ → ℕ → ℤ → ℕ
-exactFrame R s0 time = (natAbs time - s0) * R / 2 ^ 32
-
--- events in order, none before lo
-abbrev pub Ordered : ℕ → List Event → Type 0
-Ordered lo [] = Unit {0}
-Ordered lo (e ∷ es) = (t : ℕ) × (e .time .bits ≡ pos t) × (lo ≤ t) × Ordered t es
+use Rattle.sampler_processor.specs.Block.{Running, Ended, frameOf, opening, blockEnd, upTo, applied, onward, block}
+use Rattle.sampler_processor.specs.AtFrames.{below, withoutEach, exactFrame, toFrame, appliedEach}
+use Rattle.sampler_processor.proofs.Below.{rest-none}
 
 module _ (s : Setup) (b : Lent) (s0 : ℕ) where
-  abbrev pub onwardAt : (Queue → Running → Ended) → Event → Queue → Running → Bool → Ended
-  onwardAt go e q r true = go (without q) (applied s b (pos s0) e (upTo s b (pos s0) (exactFrame (s .rate) s0 (e .time .bits)) r))
-  onwardAt go e q r false = record { running = upTo s b (pos s0) (b .block) r; queue = q }
-
-  unfoldable pub blockAt : List Event → Queue → Running → Ended
-  blockAt [] q r = record { running = upTo s b (pos s0) (b .block) r; queue = q }
-  blockAt (e ∷ es) q r = onwardAt (λ p t. blockAt es p t) e q r (ltZ (e .time .bits) (blockEnd s b (pos s0)))
-
-  -- the queue that is left: without each event below the end
-  abbrev pub leftWhere : Bool → Queue → Queue → Queue
-  leftWhere true a c = a
-  leftWhere false a c = c
-
-  abbrev pub waiting : List Event → Queue → Queue
-  waiting [] q = q
-  waiting (e ∷ es) q = leftWhere (ltZ (e .time .bits) (blockEnd s b (pos s0))) (waiting es (without q)) q
-
-  on-left : (go : Queue → Running → Ended) (e : Event) (es : List Event) (q : Queue) (r : Running) (x : Bool) → ((p : Queue) (t : Running) → go p t .queue ≡ waiting es p)
-      → onwardAt go e q r x .queue ≡ leftWhere x (waiting es (without q)) q
-  on-left go e es q r true ih = ih _ _
-  on-left go e es q r false ih = refl
-
-  pub left-over : (l : List Event) (q : Queue) (r : Running) → blockAt l q r .queue ≡ waiting l q
-  unfolding blockAt
-  left-over [] q r = refl
-  left-over (e ∷ es) q r = on-left (λ p t. blockAt es p t) e es q r (ltZ (e .time .bits) (blockEnd s b (pos s0))) (left-over es)
-
   module _ (low : 8000 ≤ s .rate) (high : s .rate ≤ 96000) (some-frames : 0 < b .block) (few-frames : b .block ≤ 4096) where
     -- T of a number of frames that a block may have
     pub time-any : (n : ℕ) → n < 8 * s .rate → (t : ℕ) × (timeOf (s .rate) n ≡ pos t) × Near t (n * 2 ^ 32) (s .rate)
@@ -162,25 +130,48 @@ module _ (s : Setup) (b : Lent) (s0 : ℕ) where
     pub stands-first : (p : Player) (out : List Float) (n : ℕ) → Stands 0 0 (record { player = p; out = out; done = 0; now = pos s0; pieces = n })
     stands-first p out n = record { u = 0; now = ap pos (sym (add-zero s0)); drift = (omega arith, omega arith); before = omega arith; inside = some-frames }
 
-    same-from : (l : List Event) (q : Queue) (lo k : ℕ) (r : Running) → Ordered lo l → k + length l ≤ 20 → Stands lo k r → block s b (pos s0) l q r ≡ blockAt l q r
-    unfolding block blockAt exactFrame
-    same-from [] q lo k r o n i = refl
-    same-from (e ∷ es) q lo k r o n i =
-        ap (λ (x : Bool). onward s b (pos s0) (λ p t. block s b (pos s0) es p t) e q r (x && ltZ (e .time .bits) (blockEnd s b (pos s0)))) (lt-ltb (r .done) (b .block) (i .inside))
-        ∙ next (λ p t. block s b (pos s0) es p t) (λ p t. blockAt es p t) (λ p x j. same-from es p (o .0) (suc k) x (o .3) (omega arith) j) (ltZ (e .time .bits) (blockEnd s b (pos s0))) refl
+    -- ---- the block by whole numbers
+
+    -- the frame that the definition has for it
+    pub exact-is : (e : Event) (t : ℕ) → e .time .bits ≡ pos t → exactFrame (s .rate) (e .time .bits -ℤ pos s0) ≡ (t - s0) * s .rate / 2 ^ 32
+    exact-is e t h = ap (λ (z : ℤ). exactFrame (s .rate) (z -ℤ pos s0)) h ∙ go (pos t -ℤ pos s0) (nat-minus t s0)
       where
-        next : (go go' : Queue → Running → Ended) → ((p : Queue) (x : Running) → Stands (o .0) (suc k) x → go p x ≡ go' p x) → (x : Bool) → ltZ (e .time .bits) (blockEnd s b (pos s0)) ≡ x
-            → onward s b (pos s0) go e q r x ≡ onwardAt go' e q r x
-        next go go' ih false h = refl
-        next go go' ih true h =
-            let m : o .0 - s0 < end-is .0 = below-end e (o .0) (o .1) h in
-            let few : k ≤ 20 = omega arith in
-            ap (λ (f : ℕ). go (without q) (applied s b (pos s0) e (upTo s b (pos s0) f r))) (frame-is e (o .0) lo k r (o .1) (o .2) m few i)
-            ∙ ih (without q) (applied s b (pos s0) e (upTo s b (pos s0) ((o .0 - s0) * s .rate / 2 ^ 32) r)) (stands-next e (o .0) lo k r (o .2) m i)
-            ∙ ap (λ (f : ℕ). go' (without q) (applied s b (pos s0) e (upTo s b (pos s0) f r))) (sym (ap (λ (z : ℤ). (natAbs z - s0) * s .rate / 2 ^ 32) (o .1)))
+        go : (z : ℤ) → Minus z t s0 → exactFrame (s .rate) z ≡ (t - s0) * s .rate / 2 ^ 32
+        go (pos n) m = let k : n ≡ t - s0 = omega arith in ap (λ (d : ℕ). d * s .rate / 2 ^ 32) k
+        go (negsuc n) m = let k : 0 ≡ t - s0 = omega arith in sym (zero-div (2 ^ 32)) ∙ ap (λ (d : ℕ). d / 2 ^ 32) (sym (zero-mul (s .rate))) ∙ ap (λ (d : ℕ). d * s .rate / 2 ^ 32) k
+
+    -- these events at their frames, then the frames that are left
+    abbrev pub through : List Event → Queue → Running → Ended
+    through due q r = record { running = upTo s b (pos s0) (b .block) (appliedEach s b (pos s0) due r); queue = withoutEach due q }
+
+    -- an event below the end, and where the next one starts from
+    module _ (e : Event) (t lo k : ℕ) (r : Running) (at : e .time .bits ≡ pos t) (l : lo ≤ t) (m : ltZ (e .time .bits) (blockEnd s b (pos s0)) ≡ true) (few : k ≤ 20) (i : Stands lo k r) where
+      pub frame-exact : frameOf (s .rate) (pos s0) (r .now) (e .time .bits) ≡ exactFrame (s .rate) (e .time .bits -ℤ pos s0)
+      frame-exact = frame-is e t lo k r at l (below-end e t at m) few i ∙ sym (exact-is e t at)
+
+      pub stands-exact : Stands t (suc k) (applied s b (pos s0) e (toFrame s b (pos s0) e r))
+      stands-exact =
+          subst (λ (f : ℕ). Stands t (suc k) (applied s b (pos s0) e (upTo s b (pos s0) f r))) (sym (exact-is e t at)) (stands-next e t lo k r l (below-end e t at m) i)
+
+    same-from : (l : List Event) (q : Queue) (lo k : ℕ) (r : Running) → Ordered lo l → inOrder l ≡ true → k + length l ≤ 20 → Stands lo k r
+        → block s b (pos s0) l q r ≡ through (below (blockEnd s b (pos s0)) l) q r
+    unfolding block
+    same-from [] q lo k r o a n i = refl
+    same-from (e ∷ es) q lo k r o a n i =
+        let end = blockEnd s b (pos s0) in
+        ap (λ (x : Bool). onward s b (pos s0) (λ p t. block s b (pos s0) es p t) e q r (x && ltZ (e .time .bits) end)) (lt-ltb (r .done) (b .block) (i .inside))
+        ∙ next (λ p t. block s b (pos s0) es p t) (below end es) (λ p x j. same-from es p (o .0) (suc k) x (o .3) (rest-order (e ∷ es) a) (omega arith) j) (rest-none end e es a)
+        (ltZ (e .time .bits) end) refl
+      where
+        next : (go : Queue → Running → Ended) (due : List Event) → ((p : Queue) (x : Running) → Stands (o .0) (suc k) x → go p x ≡ through due p x)
+            → (ltZ (e .time .bits) (blockEnd s b (pos s0)) ≡ false → due ≡ []) → (x : Bool) → ltZ (e .time .bits) (blockEnd s b (pos s0)) ≡ x
+            → onward s b (pos s0) go e q r x ≡ through (cond x (e ∷ due) due) q r
+        next go due ih none false h = ap (λ (l : List Event). through l q r) (sym (none h))
+        next go due ih none true h =
+            ap (λ (f : ℕ). go (without q) (applied s b (pos s0) e (upTo s b (pos s0) f r))) (frame-exact e (o .0) lo k r (o .1) (o .2) h (omega arith) i)
+            ∙ ih (without q) (applied s b (pos s0) e (toFrame s b (pos s0) e r)) (stands-exact e (o .0) lo k r (o .1) (o .2) h (omega arith) i)
 
     -- from a block's first frame, with at most 16 events in order
-    pub same-block : (l : List Event) (q : Queue) (p : Player) (out : List Float) → Ordered 0 l → length l ≤ 16
-        → block s b (pos s0) l q (record { player = p; out = out; done = 0; now = pos s0; pieces = 0 })
-        ≡ blockAt l q (record { player = p; out = out; done = 0; now = pos s0; pieces = 0 })
-    same-block l q p out o n = same-from l q 0 0 (record { player = p; out = out; done = 0; now = pos s0; pieces = 0 }) o (omega arith) (stands-first p out 0)
+    pub same-block : (l : List Event) (q : Queue) (p : Player) (out : List Float) → Ordered 0 l → inOrder l ≡ true → length l ≤ 16
+        → block s b (pos s0) l q (opening p out (pos s0)) ≡ through (below (blockEnd s b (pos s0)) l) q (opening p out (pos s0))
+    same-block l q p out o a n = same-from l q 0 0 (opening p out (pos s0)) o a (omega arith) (stands-first p out 0)

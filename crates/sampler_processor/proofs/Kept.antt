@@ -10,13 +10,13 @@ use Rattle.sampler_event.specs.declared.Event.{Event}
 use Rattle.sampler_event.specs.declared.EventAnswer.{EventAnswer}
 use Rattle.sampler_event.specs.Limits.{admissible}
 use Rattle.sampler_event.specs.Command.{commandAnswer}
+use Rattle.sampler_event.proofs.Admissible.{taken-admissible}
 use Rattle.event_processor.specs.Queue.{received}
 use Rattle.event_processor.proofs.Kept.{received-order, received-each, received-count}
 use Rattle.sampler_processor.specs.declared.Leg.{Leg}
 use Rattle.sampler_processor.specs.Numbers.{sound}
 use Rattle.sampler_processor.specs.Calls.{legAnswer, enteredIn, commanded, submit}
 use Rattle.sampler_processor.proofs.Legs.{parts, whole, queued, queue-whole}
-use Rattle.sampler_processor.proofs.Readings.{command-admissible}
 
 module _ (l : Leg) (h : sound l ≡ true) where
   entered-sound : (e : Event) → admissible (l .setup .rate) (l .setup .fade) e ≡ true → sound (enteredIn l (received e (l .queue)) .leg) ≡ true
@@ -46,4 +46,4 @@ module _ (l : Leg) (h : sound l ≡ true) where
 
   pub submit-sound : (s : List ℕ) → sound (submit l s .leg) ≡ true
   unfolding submit
-  submit-sound s = rw h (commanded-sound (commandAnswer (l .setup .rate) (l .setup .fade) s) (command-admissible (l .setup .rate) (l .setup .fade) s))
+  submit-sound s = rw h (commanded-sound (commandAnswer (l .setup .rate) (l .setup .fade) s) (taken-admissible (l .setup .rate) (l .setup .fade) s))

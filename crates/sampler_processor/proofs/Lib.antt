@@ -5,17 +5,18 @@ pub mod Kept
 pub mod Refused
 pub mod Admitted
 pub mod Settled
--- Orders: an order of rules from its front. Sizes: what the kept sizes bound. Pairs: two voices as a list. Waiting: the queue's test along its array. Output: rule 6 along a slice. Answers: what making and a command
--- answer, by their parts. Readings: an event that a record is answered with is admissible.
+-- Sizes: what the kept sizes bound. Pairs: two voices as a list. Waiting: the queue's test along its array. Output: rule 6 along a slice. Answers: what making and a command
+-- answer, by their parts.
 pub mod Sizes
 pub mod Pairs
 pub mod Waiting
 pub mod Output
 pub mod Answers
-pub mod Readings
--- Events: each event below the block's end is applied, at its floor frame. Blocks: through a block what plays stays within its limits. Segments: how a segment counts its
+-- AtFrames: a render applies exactly the events below its block's end, each at its frame. Below: the events that a block leaves. Events: the definition's block by whole numbers. Blocks: through a block what plays stays within its limits. Segments: how a segment counts its
 -- pieces. Times: sums of times that fit. NoneDue: a block in which no event is due. Turns: what the block's loop carries, and Loops, as the code has it. NoFrames: a block of no frames changes nothing. Renders: what a render
 -- gives its block, and answers. Handed: the leg that a render hands back is sound. NoNan: no sample that it renders is a NaN.
+pub mod AtFrames
+pub mod Below
 pub mod Events
 pub mod Segments
 pub mod Blocks

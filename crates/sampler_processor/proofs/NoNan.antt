@@ -16,7 +16,7 @@ use Rattle.sampler_player.proofs.NoNan.{segment-numbers}
 use Rattle.laws.specs.Rules.{firstBroken}
 use Rattle.sampler_processor.specs.declared.Leg.{Leg}
 use Rattle.sampler_processor.specs.Numbers.{renderOrder}
-use Rattle.sampler_processor.specs.Block.{Running, Ended, frameOf, upTo, applied, isTaken, onward, block}
+use Rattle.sampler_processor.specs.Block.{Running, Ended, frameOf, opening, upTo, applied, isTaken, onward, block}
 use Rattle.sampler_processor.specs.Calls.{renderedBy, render}
 
 module _ (s : Setup) (b : Lent) (start : ℤ) where
@@ -46,7 +46,7 @@ module _ (s : Setup) (b : Lent) (start : ℤ) where
 
 rendered-by-numbers : (n : ℕ) (l : Leg) (b : Lent) (out : List Float) (start : ℤ) → Numbers out → Numbers (renderedBy n l b out start .out)
 rendered-by-numbers zero l b out start h =
-    block-numbers (l .setup) b start (pending (l .queue)) (l .queue) (record { player = l .player; out = out; done = 0; now = start; pieces = 0 }) h
+    block-numbers (l .setup) b start (pending (l .queue)) (l .queue) (opening (l .player) out start) h
 rendered-by-numbers (suc n) l b out start h = h
 
 pub render-numbers : (l : Leg) (b : Lent) (out : List Float) (start : ℤ) → Numbers out → Numbers (render l b out start .out)

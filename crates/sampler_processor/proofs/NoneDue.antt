@@ -19,7 +19,7 @@ use Rattle.sampler_player.specs.Clock.{clockAt}
 use Rattle.sampler_player.specs.Pieces.{Lent, segment}
 use Rattle.sampler_player.specs.inner.Lending.{starting}
 use Rattle.sampler_processor.specs.declared.Leg.{Leg}
-use Rattle.sampler_processor.specs.Block.{Running, blockEnd, upTo, onward, block}
+use Rattle.sampler_processor.specs.Block.{Running, opening, blockEnd, upTo, onward, block}
 use Rattle.sampler_processor.specs.Calls.{renderedTo, renderedBy}
 use Rattle.sampler_processor.specs.inner.Stands.{renderedOn}
 
@@ -46,4 +46,4 @@ unfolding upTo
 rendered-on l b out start h =
     ap (λ (n : ℕ). renderedOn l (segment (clockAt (l .setup .rate)) (l .setup) b (starting (l .player) out 0 n))) (sym (sub-zero (b .block)))
     ∙ ap (renderedTo (l .setup))
-    (sym (none-due (l .setup) b start (pending (l .queue)) (l .queue) (record { player = l .player; out = out; done = 0; now = start; pieces = 0 }) (nothing (firstBefore (blockEnd (l .setup) b start) (pending (l .queue))) h)))
+    (sym (none-due (l .setup) b start (pending (l .queue)) (l .queue) (opening (l .player) out start) (nothing (firstBefore (blockEnd (l .setup) b start) (pending (l .queue))) h)))

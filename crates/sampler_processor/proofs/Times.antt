@@ -1,7 +1,7 @@
 -- Sums and differences of times that fit are answered, not refused.
 -- The idea: the refusal's test is the range of an i64. Assumes nothing.
-use mathlib.Core.Path.{_≡_, refl, sym, ap, _∙_, subst}
-use mathlib.Core.Bool.{Bool, true, false, cond, _&&_}
+use mathlib.Core.Path.{_≡_, sym, ap, subst}
+use mathlib.Core.Bool.{Bool, true, cond}
 use mathlib.Core.Option.{Option, none, some}
 use Prim.Native.Nat.{ℕ, suc, _+_, _-_, _*_, _^_, _≤_, _<_}
 use native.Mathlib.Nat.{le-trans}
@@ -10,11 +10,12 @@ use lib.Dec.{T, leb, leb→le, le→leb, lit≤}
 use lib.IntN.{ℤ, pos, negsuc, negℤ, natAbs, _+ℤ_, _-ℤ_}
 use lib.Signed.{mag, leZ}
 use borrow.Author.Tests.{lt-ltb}
-use mir.Facts.{and-yes}
+use lib.Ieee.Bits.{is-true}
+use mir.Facts.{and-yes, yes-and}
 use mir.Syntax.{w64}
 use mir.Val.{SFits}
 use Rattle.laws.proofs.Minus.{nat-minus, fits64}
-use Rattle.timestamp.specs.Time.{timeOf, later}
+use Rattle.timestamp.specs.Time.{timeOf}
 use Rattle.timestamp.specs.Answer.{made, plus, minus}
 use Rattle.timestamp.proofs.Time.{T-near}
 use Rattle.timestamp.proofs.Frames.{short}
@@ -28,13 +29,8 @@ sum-is a b F = ap (λ (t : Bool). made (cond t (some (a +ℤ b)) none) .time .bi
 pub difference-is : (a b : ℤ) → SFits w64 (a -ℤ b) → minus a b .time .bits ≡ a -ℤ b
 difference-is a b F = ap (λ (t : Bool). made (cond t (some (a -ℤ b)) none) .time .bits) (lt-ltb (mag (a -ℤ b)) (2 ^ 63) (F .sfits))
 
--- a test passed as an equation
-pub true-is : {b : Bool} → T b → b ≡ true
-true-is {b = true} t = refl
-true-is {b = false} t = absurd t
-
 pub up-to : (m : ℕ) (z : ℤ) → T (within (pos 0) (pos m) z) → UpTo m z
-up-to m z t = within-up m z (true-is t)
+up-to m z t = within-up m z (is-true (within (pos 0) (pos m) z) t)
 
 -- a delay is within the reach of an event
 pub delay-size : (z : ℤ) → T (within (negℤ (pos (2 ^ 20))) (pos (2 ^ 49)) z) → natAbs z ≤ 2 ^ 49
@@ -74,11 +70,7 @@ apart-fits a b u v =
     near' m n h = omega arith
 
 pub up-within : (m : ℕ) (z : ℤ) → UpTo m z → T (within (pos 0) (pos m) z)
-up-within m z u = subst (λ (y : ℤ). T (within (pos 0) (pos m) y)) (sym (u .is)) (both (leb 0 (natAbs z)) (leb (natAbs z) m) (le→leb 0 (natAbs z) Prim.Native.Nat.zero-le) (le→leb (natAbs z) m (u .most)))
-  where
-    both : (a b : Bool) → T a → T b → T (a && b)
-    both true b t v = v
-    both false b t v = absurd t
+up-within m z u = subst (λ (y : ℤ). T (within (pos 0) (pos m) y)) (sym (u .is)) (yes-and (leb 0 (natAbs z)) (leb (natAbs z) m) (le→leb 0 (natAbs z) Prim.Native.Nat.zero-le) (le→leb (natAbs z) m (u .most)))
 
 pub up-more : (m n : ℕ) (z : ℤ) → m ≤ n → UpTo m z → UpTo n z
 up-more m n z h u = record { is = u .is; most = le-trans (u .most) h }

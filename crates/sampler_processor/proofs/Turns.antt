@@ -9,30 +9,30 @@ use native.Mathlib.Omega.{arith}
 use borrow.Author.Tests.{lt-ltb, leb-true, le-leb}
 use lib.Dec.{lit≤}
 use lib.IntN.{ℤ, pos, negsuc, negℤ, natAbs, _+ℤ_, _-ℤ_}
-use lib.ListN.{length, drop, take, length-take}
-use lib.Signed.{ltZ, leZ}
+use lib.ListN.{length, drop, length-take}
+use lib.Signed.{ltZ}
 use lib.Ieee.{Float}
 use Rattle.laws.proofs.Tests.{yes}
 use Rattle.timestamp.specs.Time.{timeOf}
 use Rattle.sampler_event.specs.declared.Event.{Event}
 use Rattle.sampler_event.specs.declared.Kind.{Kind}
 use Rattle.laws.specs.Rules.{within}
-use Rattle.sampler_event.specs.Limits.{positionsBad, admissible}
+use Rattle.sampler_event.specs.Limits.{admissible}
 use Rattle.sampler_event.proofs.Limits.{UpTo}
 use Rattle.sampler_event.proofs.Admissible.{passed, time-up}
 use Rattle.event_processor.specs.declared.Queue.{Queue}
 use Rattle.event_processor.specs.declared.First.{First}
 use Rattle.event_processor.specs.declared.First.the-variants.{Nothing, Due}
-use Rattle.event_processor.specs.Queue.{pending, without, firstBefore, takenBefore, leave, each, inOrder, inOrderFrom}
+use Rattle.event_processor.specs.Queue.{pending, without, firstBefore, each}
 use Rattle.event_processor.proofs.Pending.{pending-without}
-use Rattle.event_processor.proofs.Places.{taken-places}
+use Rattle.event_processor.proofs.Places.{without-places}
+use Rattle.event_processor.proofs.Ordered.{Ordered, ordered}
 use Rattle.sampler_player.specs.declared.Setup.{Setup}
 use Rattle.sampler_player.specs.declared.Player.{Player}
 use Rattle.sampler_player.specs.Clock.{clockAt}
 use Rattle.sampler_player.specs.Events.{apply}
 use Rattle.sampler_player.specs.Pieces.{Lent, Going, segment}
 use Rattle.sampler_player.specs.inner.Kept.{kept}
-use Rattle.sampler_player.proofs.Kept.{stands, stands-within}
 use Rattle.sampler_player.proofs.Enough.{segment-kept}
 use Rattle.sampler_player.proofs.Applied.{apply-kept}
 use Rattle.sampler_processor.specs.Numbers.{queueGood}
@@ -41,30 +41,11 @@ use Rattle.sampler_processor.specs.inner.Stands.{Reaches}
 use Rattle.sampler_processor.proofs.Times.{up-within, up-more}
 use Rattle.sampler_processor.proofs.Legs.{queued}
 use Rattle.sampler_processor.proofs.NoneDue.{none-due}
-use Rattle.sampler_processor.proofs.Events.{Ordered, Stands, end-is, below-end, frame-is, frame-ahead, stands-next, stands-first}
+use Rattle.sampler_processor.proofs.Events.{Stands, below-end, frame-is, frame-ahead, stands-next, stands-first}
 use Rattle.sampler_processor.proofs.Blocks.{Fit, AllFit, Delayed, delayed, event-kept, up-to-kept, reached, applied-done}
 use Rattle.sampler_processor.proofs.Segments.{segment-pieces}
 
--- ---- a queue in order is a list of events in order, each admitted
-ordered-from : (R F lo : ℕ) (l : List Event) → each (admissible R F) l ≡ true → inOrderFrom (pos lo) l ≡ true → Ordered lo l
-ordered-from R F lo [] h o = tt
-ordered-from R F lo (e ∷ es) h o =
-    let a = and-eq-true-iff (admissible R F e) (each (admissible R F) es) .0 h in
-    let b = and-eq-true-iff (leZ (pos lo) (e .time .bits)) (inOrderFrom (e .time .bits) es) .0 o in
-    let u = time-up e (passed R F e (a .0) .time) in (
-      natAbs (e .time .bits),
-      u .is,
-      leb-true lo (natAbs (e .time .bits)) (ap (λ (z : ℤ). leZ (pos lo) z) (sym (u .is)) ∙ b .0),
-      ordered-from R F (natAbs (e .time .bits)) es (a .1) (ap (λ (z : ℤ). inOrderFrom z es) (sym (u .is)) ∙ b .1),
-    )
-
-pub ordered-all : (R F : ℕ) (l : List Event) → each (admissible R F) l ≡ true → inOrder l ≡ true → Ordered 0 l
-ordered-all R F [] h o = tt
-ordered-all R F (e ∷ es) h o =
-    let a = and-eq-true-iff (admissible R F e) (each (admissible R F) es) .0 h in
-    let u = time-up e (passed R F e (a .0) .time) in
-    (natAbs (e .time .bits), u .is, Prim.Native.Nat.zero-le, ordered-from R F (natAbs (e .time .bits)) es (a .1) (ap (λ (z : ℤ). inOrderFrom z es) (sym (u .is)) ∙ o))
-
+-- ---- what a good queue gives
 pub all-fit : (s : Setup) (l : List Event) → each (admissible (s .rate) (s .fade)) l ≡ true → AllFit s l
 all-fit s [] h = tt
 all-fit s (e ∷ es) h =
@@ -114,7 +95,7 @@ turn-first s b s0 q p out low high some few table soon k g e =
       is = refl;
       at = stands-first s b s0 low high some few p out 0;
       inside = subst (λ (x : ℕ). kept s x p ≡ true) (sym (sub-zero (b .block))) k;
-      order = ordered-all (s .rate) (s .fade) (pending q) (w .each-one) (w .ordered);
+      order = ordered (s .rate) (s .fade) (pending q) (w .each-one) (w .ordered);
       fit = all-fit s (pending q) (w .each-one);
       timely = w .each-one;
       few = omega (arith, n);
@@ -163,10 +144,6 @@ module _ (s : Setup) (b : Lent) (s0 : ℕ) (Z : Ended) (q : Queue) (r : Running)
   unfolding block
   step x xs h =
       ap₂ (λ (y z : Bool). onward s b (pos s0) (λ w t. block s b (pos s0) xs w t) x q r (y && z)) (lt-ltb (r .done) (b .block) (u .at .inside)) h
-
-  left-is : (x : Event) (xs : List Event) → pending q ≡ x ∷ xs → ltZ (x .time .bits) (blockEnd s b (pos s0)) ≡ true → takenBefore (blockEnd s b (pos s0)) q .queue ≡ without q
-  unfolding takenBefore
-  left-is x xs p h = ap (λ (f : First). leave f q) (ap (firstBefore (blockEnd s b (pos s0))) p ∙ ap (λ (y : Bool). cond y (Due x) Nothing) h)
 
   -- what the next turn starts from, at a frame f
   abbrev Next : Event → ℕ → Type 0
@@ -233,7 +210,7 @@ module _ (s : Setup) (b : Lent) (s0 : ℕ) (Z : Ended) (q : Queue) (r : Running)
               timely = subst (λ (l : List Event). each (admissible (s .rate) (s .fade)) l ≡ true) (sym w) (d .1);
               few = subst (λ (l : List Event). suc (u .k) + length l ≤ 16) (sym w) (omega (arith, n));
               room = le-trans (sub-le (q .count) 1) (u .room);
-              places = ap (λ (i : Queue). length (i .events)) (sym (left-is x xs p h)) ∙ taken-places (blockEnd s b (pos s0)) q (u .places);
+              places = without-places q (u .places);
               pieces = pieces-here x F (v .0);
             },
       ) in
@@ -273,18 +250,3 @@ module _ (s : Setup) (b : Lent) (s0 : ℕ) (Z : Ended) (q : Queue) (r : Running)
   -- ---- none is due: the rest of the block
   pub turn-last : firstBefore (blockEnd s b (pos s0)) (pending q) ≡ Nothing → Z ≡ record { running = upTo s b (pos s0) (b .block) r; queue = q }
   turn-last f = sym (u .is) ∙ none-due s b (pos s0) (pending q) q r f
-
--- ---- the queue that is left, and that there was an event to take
-pub due-left : (end : ℤ) (q : Queue) (e : Event) → firstBefore end (pending q) ≡ Due e → takenBefore end q .queue ≡ without q
-unfolding takenBefore
-due-left end q e f = ap (λ (x : First). leave x q) f
-
-due-at : (n : ℕ) (es : List Event) (end : ℤ) (e : Event) → firstBefore end (take n es) ≡ Due e → 0 < n
-due-at zero es end e f = no-event e f
-due-at (suc n) es end e f = native.Mathlib.Nat.zero-lt-suc n
-
-pub due-some : (end : ℤ) (q : Queue) (e : Event) → firstBefore end (pending q) ≡ Due e → without q .count < q .count
-due-some end q e f = less (q .count) (due-at (q .count) (q .events) end e f)
-  where
-    less : (n : ℕ) → 0 < n → n - 1 < n
-    less n h = omega arith

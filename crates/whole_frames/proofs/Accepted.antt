@@ -1,58 +1,32 @@
 -- What a render that is not refused has been given: sizes in range, at most 4,096 frames, a start and a position within their limits, and events that are admissible and in order.
 -- The idea: no rule of its order is broken (`Admitted`), and each is a bound. Assumes nothing.
 use Prim.Native.Nat.{ℕ, _^_, _≤_}
-use mathlib.Core.Path.{_≡_, subst}
-use mathlib.Core.Bool.{true, false, _&&_, and-eq-true-iff}
-use mathlib.Core.List.{List, [], _∷_}
+use mathlib.Core.Path.{_≡_}
+use mathlib.Core.Bool.{true, false, _&&_}
+use mathlib.Core.List.{List}
 use native.Mathlib.Omega.{arith}
-use borrow.Author.Tests.{leb-true, ltb-false, not-false}
+use borrow.Author.Tests.{ltb-false, not-false}
 use lib.Dec.{ltb}
-use lib.IntN.{ℤ, pos, negℤ, natAbs}
+use lib.IntN.{ℤ, pos, negℤ}
 use lib.ListN.{length, length-take}
-use lib.Signed.{ltZ, leZ}
+use lib.Signed.{ltZ}
 use lib.Ieee.{Float}
-use Rattle.sampler_event.specs.declared.Event.{Event}
 use Rattle.laws.specs.Rules.{within, firstBroken}
 use Rattle.sampler_event.specs.Limits.{admissible}
 use Rattle.sampler_event.proofs.Limits.{UpTo, within-up}
-use Rattle.event_processor.specs.Queue.{pending, inOrderFrom, inOrder, each}
+use Rattle.event_processor.specs.Queue.{pending, each}
+use Rattle.event_processor.proofs.Ordered.{Ordered, ordered}
 use Rattle.sampler_player.specs.declared.Setup.{Setup}
 use Rattle.sampler_player.specs.declared.Player.{Player}
 use Rattle.sampler_player.specs.Pieces.{Lent}
 use Rattle.sampler_player.specs.Sound.{activeGood, voicesGood, loopGood, playerGood, anyFar}
-use Rattle.sampler_player.proofs.Applied as Applied
 use Rattle.laws.proofs.Tests.{other-of, neither}
 use Rattle.sampler_processor.specs.declared.Leg.{Leg}
 use Rattle.sampler_processor.specs.Numbers.{renderOrder}
 use Rattle.sampler_processor.proofs.Sizes.{Sized, sized}
 use Rattle.sampler_processor.proofs.Legs.{parts, queued}
 use Rattle.sampler_processor.proofs.Admitted.{admitted}
-use Rattle.sampler_processor.proofs.Events.{Ordered}
 
--- ---- admissible events in order are at natural numbers that rise
-time-up : (R F : ℕ) (e : Event) → admissible R F e ≡ true → UpTo (2 ^ 48) (e .time .bits)
-time-up R F e h = within-up (2 ^ 48) (e .time .bits) (not-false (within (pos 0) (pos (2 ^ 48)) (e .time .bits)) (Applied.admitted R F e h .0))
-
-ordered-from : (R F lo : ℕ) (l : List Event) → each (admissible R F) l ≡ true → inOrderFrom (pos lo) l ≡ true → Ordered lo l
-ordered-from R F lo [] a o = tt
-ordered-from R F lo (e ∷ es) a o =
-    let x = and-eq-true-iff (admissible R F e) (each (admissible R F) es) .0 a in
-    let u = time-up R F e (x .0) in
-    let y = and-eq-true-iff (leZ (pos lo) (e .time .bits)) (inOrderFrom (e .time .bits) es) .0 o in (
-      natAbs (e .time .bits),
-      u .is,
-      leb-true lo (natAbs (e .time .bits)) (subst (λ (z : ℤ). leZ (pos lo) z ≡ true) (u .is) (y .0)),
-      ordered-from R F (natAbs (e .time .bits)) es (x .1) (subst (λ (z : ℤ). inOrderFrom z es ≡ true) (u .is) (y .1)),
-    )
-
-ordered : (R F : ℕ) (l : List Event) → each (admissible R F) l ≡ true → inOrder l ≡ true → Ordered 0 l
-ordered R F [] a o = tt
-ordered R F (e ∷ es) a o =
-    let x = and-eq-true-iff (admissible R F e) (each (admissible R F) es) .0 a in
-    let u = time-up R F e (x .0) in
-    (natAbs (e .time .bits), u .is, omega arith, ordered-from R F (natAbs (e .time .bits)) es (x .1) (subst (λ (z : ℤ). inOrderFrom z es ≡ true) (u .is) o))
-
--- ---- the call
 pub record Accepted (l : Leg) (b : Lent) (start : ℤ) : Type 0 where
   pub sizes : Sized (l .setup)
   pub few-frames : b .block ≤ 4096

@@ -17,7 +17,8 @@ use Rattle.sampler_player.specs.declared.Setup.{Setup}
 use Rattle.sampler_player.specs.declared.Player.{Player}
 use Rattle.sampler_player.specs.Pieces.{Lent}
 use Rattle.sampler_processor.specs.Block.{Running, frameOf, blockEnd, upTo, applied, isTaken}
-use Rattle.sampler_processor.proofs.Events.{Ordered, Stands, below-end, frame-is, frame-ahead, stands-next, stands-first}
+use Rattle.event_processor.proofs.Ordered.{Ordered}
+use Rattle.sampler_processor.proofs.Events.{Stands, below-end, frame-is, frame-ahead, stands-next, stands-first}
 use Rattle.whole_frames.specs.Run.{nextStop, past}
 
 module _ (s : Setup) (b : Lent) (s0 : ℕ) (low : 8000 ≤ s .rate) (high : s .rate ≤ 96000) (few-frames : b .block ≤ 4096) where

@@ -22,7 +22,7 @@ use Rattle.sampler_player.specs.Assign.{stop}
 use Rattle.sampler_player.specs.Events.{apply}
 use Rattle.sampler_player.specs.Pieces.{Lent, segment}
 use Rattle.sampler_player.specs.Sound.{pointsGood, loopGood}
-use Rattle.sampler_player.proofs.Applied.{admitted}
+use Rattle.sampler_event.proofs.Admissible.{passed}
 use Rattle.sampler_player.proofs.Assign.{assign-leaves}
 use Rattle.sampler_player.proofs.Kept.{loops-opened}
 use Rattle.laws.proofs.Tests.{both}
@@ -66,8 +66,8 @@ module _ (s : Setup) (b : Lent) (start : ℤ) where
       let f = frameOf (s .rate) start (r .now) (e .time .bits) in
       let t = lasting (clockAt (s .rate)) s b (f - r .done + (2 ^ 27 + 1)) (towards s b start f r) in
       let u = upTo s b start f r in
-      let k = admitted (s .rate) (s .fade) e h in
-      placed-apply s (e .kind) (u .now -ℤ e .time .bits) (u .player) (k .1) (k .2) (placed-kept s (r .player) (u .player) (t .start) (t .points) i)
+      let k = passed (s .rate) (s .fade) e h in
+      placed-apply s (e .kind) (u .now -ℤ e .time .bits) (u .player) (k .places) (k .loop) (placed-kept s (r .player) (u .player) (t .start) (t .points) i)
 
   pub placed-comes : (es fs : List Event) (q p : Queue) (r t : Running) → each (admissible (s .rate) (s .fade)) es ≡ true → Placed s (r .player) → Comes s b start es q r fs p t → Placed s (t .player)
   placed-comes es fs q p r t h i at = i

@@ -11,10 +11,10 @@ use Rattle.event_processor.specs.declared.Queue.{Queue}
 use Rattle.event_processor.specs.declared.Taken as Tk
 use Rattle.event_processor.specs.declared.First.the-variants.{Nothing, Due}
 use Rattle.event_processor.specs.Queue.{pending, firstBefore, takenBefore, without}
+use Rattle.event_processor.proofs.Front.{taken-due, due-less}
 use Rattle.sampler_player.specs.Pieces.{lending}
 use Rattle.sampler_processor.specs.Block.{opening, block as blockOf}
 use Rattle.sampler_processor.proofs.Times.{up-to, up-within, up-more}
-use Rattle.sampler_processor.proofs.Turns.{due-left, due-some}
 use Rattle.sampler_processor.proofs.Loops.{Loop, loop-first, loop-due, loop-next, loop-last, loop-end}
 use Rattle.sampler_processor.proofs.block.run_block.Statement.{statement}
 use Rattle.sampler_processor.proofs.block.run_block.Tie as tie
@@ -55,7 +55,7 @@ due c = ap (λ (x : Tk.Taken). x .first) (sym (c .before .before .before .next-e
 
 -- the queue after it
 left : (c : tie.After-known-told Inv-loop μ-loop) → c .before .before .before .next-event-before .result .queue ≡ without (c .before .before .before .before .before .before .loop .waiting)
-left c = ap (λ (x : Tk.Taken). x .queue) (c .before .before .before .next-event-before .ensures) ∙ due-left _ _ _ (due c)
+left c = ap (λ (x : Tk.Taken). x .queue) (c .before .before .before .next-event-before .ensures ∙ taken-due _ _ _ (due c))
 
 past-event-requires : tie.Need-past-event-requires Inv-loop μ-loop
 past-event-requires c κs =
@@ -66,7 +66,7 @@ loop-less : tie.Need-loop-less Inv-loop μ-loop
 loop-less c =
     let k = c .before .before .before .before .before in
     let v = k .before .before .before .before .before .before .loop in
-    subst (λ (q : Queue). q .count < v .waiting .count) (sym (left k)) (due-some _ _ _ (due k))
+    subst (λ (q : Queue). q .count < v .waiting .count) (sym (left k)) (due-less _ _ _ (due k))
 
 loop-again : tie.Need-loop-again Inv-loop μ-loop
 loop-again c =
