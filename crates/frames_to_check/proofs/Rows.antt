@@ -62,6 +62,10 @@ times =
     ∷ isTime (timeOf 48000 1 -ℤ pos 89479) (negsuc 0)
     -- m7's frame
     ∷ eqb (frameOf 48000 (pos 0) (pos 0) (pos 42949672)) 479
+    -- m8's T(100), and m11's T(50) and T(150)
+    ∷ isTime (timeOf 48000 100) (pos 8947849)
+    ∷ isTime (timeOf 48000 50) (pos 4473924)
+    ∷ isTime (timeOf 48000 150) (pos 13421773)
     ∷ []
 
 -- ---- whole calls
@@ -94,6 +98,12 @@ table4 = ofBits binary32 0 ∷ ofBits binary32 0x3e80_0000 ∷ ofBits binary32 0
 waiting : Rendered → ℕ
 waiting r = r .answer .leg .queue .count
 
+-- two voices at once: voice 0 fades out from frame 0 and voice 1 in from frame 10 (T(10)), over an output that is not zero
+crossing : List Float
+crossing =
+    render (leg48 20 4 (command 2 0 0 0 ∷ command 1 0 894785 0 ∷ [])) (record { recording = replicate 20 (ofBits binary32 0x3c60_0000); table = table4; channels = 1; block = 4 })
+    (replicate 4 (ofBits binary32 0x4780_0000)) (pos 0) .out
+
 sounds : List Float → List ℕ → Bool
 sounds xs bits = agrees (ofOut xs []) bits
 
@@ -102,8 +112,12 @@ isPlayer p ns = agrees (ofPlayer p []) ns
 
 blocks : List Bool
 blocks =
+    -- m6: silence at frame 0, and from frame 1 on the voice; once applied the position is −1, and a piece of 1 frame later T(1) more
+    isPlayer (run 0 [] (command 1 89479 0 0 ∷ []) 0 2 .answer .leg .player) (0 ∷ 2 ∷ 0 ∷ 0 ∷ 0 ∷ 0 ∷ 1 ∷ 0 ∷ 1 ∷ 0 ∷ 0 ∷ 0 ∷ 0 ∷ [])
+    ∷ isPlayer (run 8 table4 (command 1 89479 0 0 ∷ []) 0 2 .answer .leg .player) (1 ∷ 2 ∷ 0 ∷ 0 ∷ 0 ∷ 0 ∷ 1 ∷ 0 ∷ 0 ∷ 89477 ∷ 0 ∷ 0 ∷ 0 ∷ [])
+    ∷ sounds (run 8 table4 (command 1 89479 0 0 ∷ []) 0 2 .out) (0 ∷ 0x3f80_0000 ∷ [])
     -- m7: taken in a block of 480 frames, and one unit more waits
-    eqb (waiting (run 0 [] (command 3 42949672 0 0 ∷ []) 0 480)) 0
+    ∷ eqb (waiting (run 0 [] (command 3 42949672 0 0 ∷ []) 0 480)) 0
     ∷ eqb (waiting (run 0 [] (command 3 42949673 0 0 ∷ []) 0 480)) 1
     -- m8: voice 0 begins at 99; voices, active, points, position, start, completed
     ∷ isPlayer (apply 48000 (Start (record { bits = pos 8947849 })) (pos 0 -ℤ pos 89478) quiet) (99 ∷ 1 ∷ 0 ∷ 0 ∷ 0 ∷ 0 ∷ 1 ∷ 0 ∷ 1 ∷ 89477 ∷ 0 ∷ 8947849 ∷ 0 ∷ [])
@@ -113,6 +127,11 @@ blocks =
     ∷ isPlayer (run 200 table4 (command 3 89479 0 0 ∷ command 1 178957 0 0 ∷ []) 0 3 .answer .leg .player) (1 ∷ 2 ∷ 0 ∷ 0 ∷ 0 ∷ 0 ∷ 1 ∷ 0 ∷ 0 ∷ 89477 ∷ 0 ∷ 0 ∷ 0 ∷ [])
     -- m9: voice 24,000 FadingIn, position 2^31
     ∷ isPlayer (apply 48000 (Start (record { bits = pos 0 })) (pos (2 ^ 32) -ℤ pos (2 ^ 31)) quiet) (24000 ∷ 1 ∷ 0 ∷ 0 ∷ 0 ∷ 0 ∷ 1 ∷ 0 ∷ 0 ∷ 2 ^ 31 ∷ 0 ∷ 0 ∷ 0 ∷ [])
+    -- and in a block of 1 frame: past the end of the recording nothing moves
+    ∷ isPlayer (run 8 table4 (command 1 (2 ^ 31) 0 0 ∷ []) (2 ^ 32) 1 .answer .leg .player) (24000 ∷ 1 ∷ 0 ∷ 0 ∷ 0 ∷ 0 ∷ 1 ∷ 0 ∷ 0 ∷ 2 ^ 31 ∷ 0 ∷ 0 ∷ 0 ∷ [])
+    -- a trap: voice 0 is added to the output, then voice 1. In steps of the output's last bit, 2^-7, a sample is 1.75: over 2^16 come 1.75 + 0, 1.3125 + .4375, .875 + .875 and
+    -- .4375 + 1.3125, each sum rounded: 2 + 0, 1 + 0, 1 + 1 and 0 + 1. Voices added together first would give 1.75, hence 2, in every frame
+    ∷ sounds crossing (0x4780_0002 ∷ 0x4780_0001 ∷ 0x4780_0002 ∷ 0x4780_0001 ∷ [])
     -- m10: 1, .75, .5, .25, 0, in one piece
     ∷ sounds (run 8 table4 (command 2 0 0 0 ∷ command 3 0 0 0 ∷ []) 0 5 .out) (0x3f80_0000 ∷ 0x3f40_0000 ∷ 0x3f00_0000 ∷ 0x3e80_0000 ∷ 0 ∷ [])
     ∷ eqb (run 8 table4 (command 2 0 0 0 ∷ command 3 0 0 0 ∷ []) 0 5 .answer .pieces) 1
@@ -174,5 +193,5 @@ limits =
 
 -- the table
 rows : T (all times && (all blocks && (all clocks && all limits)))
-unfolding opened agrees all isTime times le-bytes command taking leg48 run table4 waiting sounds isPlayer blocks looping setup200 lent200 clocks limits
+unfolding opened agrees all isTime times le-bytes command taking leg48 run table4 waiting crossing sounds isPlayer blocks looping setup200 lent200 clocks limits
 rows = tt
