@@ -1,4 +1,4 @@
--- Document 01, "Frames to check": rows m1 to m12 and the limits under the table, with a row more for the summed T, in one statement.
+-- Document 01, "Frames to check": rows m1 to m12 and the limits under the table, with a row more for each of two traps (T of the sum, voices added together first), in one statement.
 -- The idea: the definitions compute; a test on numbers holds by `tt`. Assumes nothing.
 use Prim.Native.Nat.{ℕ, zero, suc, _/_, _%_, _^_}
 use mathlib.Core.Bool.{Bool, true, false, _&&_}

@@ -1,5 +1,5 @@
 -- Demand 3, over the definitions of sampler_player and sampler_processor. First: the first half (`first-half`). Second: the second half (`second-half`). Rates: its budget at four
--- rates. Starts: where a run may begin. Example: a run that moves.
+-- rates. Starts: where a run may begin. Example: a run in full, in numbers.
 pub mod First
 pub mod Second
 pub mod Rates
