@@ -1,7 +1,8 @@
 -- What the position and the pieces are after calls: each moves them as its block does, or not at all; and "The pieces reported equal the number of such renderings".
 -- The idea: a render that is not refused starts its block with events in order (Accepted), and Blocks does the rest. Assumes nothing.
-use Prim.Native.Nat.{ℕ, zero, suc, _+_}
+use Prim.Native.Nat.{ℕ, zero, suc, _+_, _-_}
 use native.Mathlib.Nat.{zero-add}
+use native.Mathlib.Omega.{arith}
 use mathlib.Core.Path.{_≡_, refl, sym, ap, _∙_, subst}
 use mathlib.Core.Bool.{Bool, true, false, cond}
 use mathlib.Core.List.{List, [], _∷_}
@@ -14,15 +15,15 @@ use Rattle.sampler_event.specs.declared.EventAnswer.{EventAnswer}
 use Rattle.laws.specs.Rules.{firstBroken}
 use Rattle.sampler_event.specs.Command.{commandAnswer}
 use Rattle.event_processor.specs.declared.Queue.{Queue}
-use Rattle.event_processor.specs.Queue.{pending, received}
+use Rattle.event_processor.specs.Queue.{pending, without, received}
 use Rattle.sampler_player.specs.declared.Setup.{Setup}
 use Rattle.sampler_player.specs.declared.Player.{Player}
 use Rattle.sampler_player.specs.Pieces.{Lent}
 use Rattle.sampler_processor.specs.declared.Leg.{Leg}
 use Rattle.sampler_processor.specs.Numbers.{sound, renderOrder}
-use Rattle.sampler_processor.specs.Block.{Running, isTaken, block}
-use Rattle.sampler_processor.specs.Calls.{legAnswer, enteredIn, commanded, submit, renderedBy, render}
-use Rattle.whole_frames.specs.Run.{Told, nothing, toldOf, past, Comes, at, on, Inside, Call, submitted, rendered, opening, toldBy, toldAt, legAfter, toldAll, legAfterAll, reportedAt, reportedAll}
+use Rattle.sampler_processor.specs.Block.{Running, Ended, isTaken, onward, block}
+use Rattle.sampler_processor.specs.Calls.{Rendered, legAnswer, enteredIn, commanded, submit, renderedTo, renderedBy, render}
+use Rattle.whole_frames.specs.Run.{Told, nothing, toldOf, past, Comes, at, on, Inside, Call, submitted, rendered, opening, toldBy, toldAt, legAfter, toldAll, legAfterAll, reportedAt, reportedAll, Midway, legRest, toldRest, callOf, toldFrom, reportedFrom}
 use Rattle.whole_frames.proofs.Accepted.{Accepted, accepted}
 use Rattle.whole_frames.proofs.Along.{Along, along-first, along-next}
 use Rattle.whole_frames.proofs.Blocks.{Moves, moves-then, moves-none, block-moves, inside-moves, block-count}
@@ -83,6 +84,11 @@ module _ (l : Leg) (b : Lent) (out : List Float) (start : ℤ) (c : Accepted l b
       inside-moves (l .setup) b (natAbs start) (c .sizes .rate-low) (c .sizes .rate-high) (c .few-frames) lo k es r a p w
       (subst (λ (z : ℤ). Inside (l .setup) b z es r a p) (c .from .is) i)
 
+  pub rest-count : (es : List Event) (q : Queue) (r : Running) → block (l .setup) b start es q r .running .pieces ≡ r .pieces + length (toldOf (l .setup) b start es r .pieces)
+  rest-count es q r =
+      subst (λ (z : ℤ). block (l .setup) b z es q r .running .pieces ≡ r .pieces + length (toldOf (l .setup) b z es r .pieces)) (sym (c .from .is))
+      (block-count (l .setup) b (natAbs start) (c .sizes .rate-low) (c .sizes .rate-high) (c .few-frames) es q r)
+
 -- ---- a call, and calls
 render-moves : (l : Leg) (b : Lent) (out : List Float) (start : ℤ) (n : ℕ) → (n ≡ 0 → Accepted l b start)
     → Moves (l .setup .rate) (toldBy n l b out start) (l .player) (renderedBy n l b out start .answer .leg .player)
@@ -116,13 +122,29 @@ calls-move l (c ∷ cs) =
     moves-then (l .setup .rate) (toldAt l c) (toldAll x cs) (l .player) (x .player) (legAfterAll x cs .player) (call-moves l c)
     (subst (λ (s : Setup). Moves (s .rate) (toldAll x cs) (x .player) (legAfterAll x cs .player)) (call-setup l c) (calls-move x cs))
 
+-- ---- the call that renders a block gives what its rest gives
+block-comes : (s : Setup) (b : Lent) (start : ℤ) (es fs : List Event) (q p : Queue) (r t : Running) → Comes s b start es q r fs p t → block s b start es q r ≡ block s b start fs p t
+unfolding block
+block-comes s b start es fs q p r t at = refl
+block-comes s b start (e ∷ es) fs q p r t (on x w) =
+    ap (λ (y : Bool). onward s b start (λ p t. block s b start es p t) e q r y) x ∙ block-comes s b start es fs (without q) p (past s b start e r) t w
+
+render-rest : (m : Midway) → render (m .leg) (m .lent) (m .out) (m .start) ≡ renderedTo (m .leg .setup) (block (m .leg .setup) (m .lent) (m .start) (m .events) (m .queue) (m .running))
+unfolding render
+render-rest m =
+    let l = m .leg in
+    ap (λ (n : ℕ). renderedBy n l (m .lent) (m .out) (m .start)) (m .taken)
+    ∙ ap (λ (e : Ended). renderedTo (l .setup) e)
+    (block-comes (l .setup) (m .lent) (m .start) (pending (l .queue)) (m .events) (l .queue) (m .queue) (opening l (m .out) (m .start)) (m .running) (m .comes))
+
+pub leg-rest : (m : Midway) → legAfter (m .leg) (callOf m) ≡ legRest m
+unfolding legAfter legRest
+leg-rest m = ap (λ (x : Rendered). x .answer .leg) (render-rest m)
+
 -- ---- "The pieces reported equal the number of such renderings"
 render-count : (l : Leg) (b : Lent) (out : List Float) (start : ℤ) (n : ℕ) → (n ≡ 0 → Accepted l b start) → renderedBy n l b out start .answer .pieces ≡ length (toldBy n l b out start .pieces)
 render-count l b out start zero f =
-    let c = f refl in
-    subst (λ (z : ℤ). block (l .setup) b z (pending (l .queue)) (l .queue) (opening l out z) .running .pieces ≡ length (toldOf (l .setup) b z (pending (l .queue)) (opening l out z) .pieces)) (sym (c .from .is))
-    (block-count (l .setup) b (natAbs start) (c .sizes .rate-low) (c .sizes .rate-high) (c .few-frames) (pending (l .queue)) (l .queue) (opening l out (pos (natAbs start)))
-    ∙ zero-add (length (toldOf (l .setup) b (pos (natAbs start)) (pending (l .queue)) (opening l out (pos (natAbs start))) .pieces)))
+    rest-count l b out start (f refl) (pending (l .queue)) (l .queue) (opening l out start) ∙ zero-add (length (toldOf (l .setup) b start (pending (l .queue)) (opening l out start) .pieces))
 render-count l b out start (suc n) f = refl
 
 reported-at : (l : Leg) (c : Call) → reportedAt l c ≡ length (toldAt l c .pieces)
@@ -136,3 +158,15 @@ reported-all l [] = refl
 reported-all l (c ∷ cs) =
     let x = legAfter l c in
     ap (λ (n : ℕ). n + reportedAll x cs) (reported-at l c) ∙ ap (λ (n : ℕ). length (toldAt l c .pieces) + n) (reported-all x cs) ∙ sym (length-append (toldAt l c .pieces) (toldAll x cs .pieces))
+
+-- and from inside a block
+pub reported-from : (m : Midway) (cs : List Call) → reportedFrom m cs ≡ length (toldFrom m cs .pieces)
+unfolding reportedFrom toldFrom reportedAll reportedAt toldRest
+reported-from m cs =
+    let l = m .leg in
+    let x = legAfter l (callOf m) in
+    let first = ap (λ (x : Rendered). x .answer .pieces) (render-rest m) ∙ rest-count l (m .lent) (m .out) (m .start) (accepted l (m .lent) (m .out) (m .start) (m .taken)) (m .events) (m .queue) (m .running) in
+    less (m .running .pieces) _ _ _ _ _ first (reported-all x cs) (length-append (toldRest m .pieces) (toldAll x cs .pieces))
+  where
+    less : (b a r n t d : ℕ) → a ≡ b + n → r ≡ t → d ≡ n + t → a + r - b ≡ d
+    less b a r n t d h i j = omega arith

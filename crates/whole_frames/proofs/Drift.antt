@@ -58,7 +58,7 @@ apart a (suc b) c h k = go (ltb a (suc b)) (ltb→lt a (suc b)) (nltb→le a (su
 gone : (P D : ℤ) (w : ℕ) → P ≡ D +ℤ pos w → P -ℤ D ≡ pos w
 gone P D w e = ap (λ (z : ℤ). z -ℤ D) (e ∙ +ℤ-comm D (pos w)) ∙ +ℤ-negℤ-cancel (pos w) D
 
-pub drifts : (R : ℕ) (D P : ℤ) (ms : List ℕ) → Timed R ms → P ≡ travel (clockAt R) D ms → Drifts R ms D P
+pub drifts : (R : ℕ) (D P : ℤ) (ms : List ℕ) → Timed R ms → P ≡ travel (clockAt R) D ms → Drifts R (length ms) ms D P
 drifts R D P ms a e =
     let d = drift R D ms a in
     let h =

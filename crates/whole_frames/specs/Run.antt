@@ -4,7 +4,6 @@ use mathlib.Core.Path.{_≡_}
 use mathlib.Core.Bool.{Bool, true, false, not, cond}
 use mathlib.Core.List.{List, [], _∷_, _++_}
 use lib.IntN.{ℤ, pos, natAbs, _-ℤ_, _*ℤ_}
-use lib.ListN.{length}
 use lib.Ieee.{Float}
 use Rattle.sampler_event.specs.declared.Kind.{Kind}
 use Rattle.sampler_event.specs.declared.Kind.the-variants.{Start, StartImmediate, Stop, EnableLoop, CancelLoop, CancelAll}
@@ -140,6 +139,17 @@ legRest m = legOf (m .leg .setup) (block (m .leg .setup) (m .lent) (m .start) (m
 unfoldable pub toldRest : Midway → Told
 toldRest m = toldOf (m .leg .setup) (m .lent) (m .start) (m .events) (m .running)
 
+-- the call that renders the block
+abbrev pub callOf : Midway → Call
+callOf m = rendered (m .lent) (m .out) (m .start)
+
+-- from there to the end of the block, and calls after it: what is told, and k: the pieces that those calls report, less the block's before the run begins
+unfoldable pub toldFrom : Midway → List Call → Told
+toldFrom m cs = then (toldRest m) (toldAll (legAfter (m .leg) (callOf m)) cs)
+
+unfoldable pub reportedFrom : Midway → List Call → ℕ
+reportedFrom m cs = reportedAll (m .leg) (callOf m ∷ cs) - m .running .pieces
+
 -- ---- every point of a run, with what is told up to it and what plays there
 
 -- from a leg: between two calls, or inside a block
@@ -169,6 +179,6 @@ isStart CancelAll = false
 abbrev pub noStart : Told → Type 0
 noStart a = each (λ (e : Event). not (isStart (e .kind))) (a .events) ≡ true
 
--- 2·|(P − D)·R − n·2^32| ≤ k·R, for k pieces of n frames from D to P
-abbrev pub Drifts : ℕ → List ℕ → ℤ → ℤ → Type 0
-Drifts R ms D P = 2 * natAbs ((P -ℤ D) *ℤ pos R -ℤ pos (total ms * 2 ^ 32)) ≤ length ms * R
+-- 2·|(P − D)·R − n·2^32| ≤ k·R, for k pieces and the frames of each, from D to P
+abbrev pub Drifts : ℕ → ℕ → List ℕ → ℤ → ℤ → Type 0
+Drifts R k ms D P = 2 * natAbs ((P -ℤ D) *ℤ pos R -ℤ pos (total ms * 2 ^ 32)) ≤ k * R
