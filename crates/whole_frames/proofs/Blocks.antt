@@ -7,7 +7,7 @@ use mathlib.Core.Path.{_≡_, refl, sym, ap, _∙_}
 use mathlib.Core.Bool.{Bool, true, false, not, _&&_, and-eq-true-iff, false≢true}
 use mathlib.Core.List.{List, [], _∷_, _++_}
 use lib.IntN.{ℤ, pos, _-ℤ_}
-use lib.ListN.{length, length-append}
+use lib.ListN.{length}
 use Rattle.timestamp.specs.declared.Timestamp.{Timestamp}
 use Rattle.sampler_event.specs.declared.Kind.{Kind}
 use Rattle.sampler_event.specs.declared.Kind.the-variants.{Start, StartImmediate, Stop, EnableLoop, CancelLoop, CancelAll}
@@ -24,12 +24,12 @@ use Rattle.sampler_processor.specs.Block.{Running, Ended, frameOf, upTo, applie
 use Rattle.whole_frames.specs.Run.{Told, then, towards, piecesTo, toldOn, toldOf, nextStop, past, Inside, here, later, isStart, noStart}
 use Rattle.sampler_player.proofs.Trace.{traced}
 use Rattle.whole_frames.proofs.Lasting.{at-most-wider, lasting}
-use Rattle.whole_frames.proofs.Drift.{Timed, timed, timed-append, travel-append}
+use Rattle.whole_frames.proofs.Drift.{EachTimed, each-timed, each-append, count-append, travel-append}
 use Rattle.whole_frames.proofs.Along.{Along, frame-inside, along-next, stop-inside}
 
 -- ---- from p to w by what is told
 pub record Moves (R : ℕ) (a : Told) (p w : Player) : Type 0 where
-  pub timed : Timed R (a .pieces)
+  pub each-timed : EachTimed R (a .pieces)
   pub position : noStart a → w .position .bits ≡ travel (clockAt R) (p .position .bits) (a .pieces)
 
 each-parts : (P : Event → Bool) (xs ys : List Event) → each P (xs ++ ys) ≡ true → (each P xs ≡ true) × (each P ys ≡ true)
@@ -45,14 +45,14 @@ no-start-parts a b h = each-parts (λ (e : Event). not (isStart (e .kind))) (a .
 pub moves-then : (R : ℕ) (a b : Told) (p w x : Player) → Moves R a p w → Moves R b w x → Moves R (then a b) p x
 moves-then R a b p w x m n =
     record {
-      timed = timed-append R (a .pieces) (b .pieces) (m .timed) (n .timed);
+      each-timed = each-append R (a .pieces) (b .pieces) (m .each-timed) (n .each-timed);
       position = λ h.
           let k = no-start-parts a b h in
           n .position (k .1) ∙ ap (λ (z : ℤ). travel (clockAt R) z (b .pieces)) (m .position (k .0)) ∙ sym (travel-append R (p .position .bits) (a .pieces) (b .pieces));
     }
 
 pub moves-none : (R : ℕ) (p : Player) → Moves R (record { pieces = []; events = [] }) p p
-moves-none R p = record { timed = tt; position = λ h. refl }
+moves-none R p = record { each-timed = tt; position = λ h. refl }
 
 -- ---- an event that is no start leaves the position
 applied-position : (R : ℕ) (k : Kind) (d : ℤ) (p : Player) → (not (isStart k) && true) ≡ true → apply R k d p .position ≡ p .position
@@ -73,7 +73,7 @@ module _ (s : Setup) (b : Lent) (s0 : ℕ) (low : 8000 ≤ s .rate) (high : s .r
       let l = lasting (clockAt (s .rate)) s b n (towards s b (pos s0) f r) in
       let ms = renderings (clockAt (s .rate)) s b n (towards s b (pos s0) f r) in
       record {
-        timed = timed (s .rate) 4096 ms (omega arith) (omega arith) (omega arith) (at-most-wider (f - r .done) 4096 ms (omega arith) (l .sizes));
+        each-timed = each-timed (s .rate) 4096 ms (omega arith) (omega arith) (omega arith) (at-most-wider (f - r .done) 4096 ms (omega arith) (l .sizes));
         position = λ k. t .position;
       }
 
@@ -85,7 +85,7 @@ module _ (s : Setup) (b : Lent) (s0 : ℕ) (low : 8000 ≤ s .rate) (high : s .r
       let m = passes-move f (f - r .done + (2 ^ 27 + 1)) r h in
       let u = upTo s b (pos s0) f r in
       record {
-        timed = m .timed;
+        each-timed = m .each-timed;
         position = λ k. ap (λ (t : Timestamp). t .bits) (applied-position (s .rate) (e .kind) (u .now -ℤ e .time .bits) (u .player) k) ∙ m .position refl;
       }
 
@@ -133,9 +133,5 @@ module _ (s : Setup) (b : Lent) (s0 : ℕ) (low : 8000 ≤ s .rate) (high : s .r
       go tell on ih true =
           let f = frameOf (s .rate) (pos s0) (r .now) (e .time .bits) in
           let t = tell (past s b (pos s0) e r) .pieces in
-          let l = length-append (piecesTo s b (pos s0) f r) t in
-          ih (without q) (past s b (pos s0) e r) ∙ ap (λ (n : ℕ). n + length t) past-count ∙ sums (r .pieces) (length (piecesTo s b (pos s0) f r)) (length t) _ l
-        where
-          sums : (a b c d : ℕ) → d ≡ b + c → a + b + c ≡ a + d
-          sums a b c d h = omega arith
+          ih (without q) (past s b (pos s0) e r) ∙ ap (λ (n : ℕ). n + length t) past-count ∙ sym (count-append (r .pieces) (piecesTo s b (pos s0) f r) t)
       go tell on ih false = upTo-count (b .block) r

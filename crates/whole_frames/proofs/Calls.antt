@@ -23,7 +23,8 @@ use Rattle.sampler_processor.specs.declared.Leg.{Leg}
 use Rattle.sampler_processor.specs.Numbers.{sound, renderOrder}
 use Rattle.sampler_processor.specs.Block.{Running, Ended, isTaken, onward, block}
 use Rattle.sampler_processor.specs.Calls.{Rendered, legAnswer, enteredIn, commanded, submit, renderedTo, renderedBy, render}
-use Rattle.whole_frames.specs.Run.{Told, nothing, toldOf, past, Comes, at, on, Inside, Call, submitted, rendered, opening, toldBy, toldAt, legAfter, toldAll, legAfterAll, reportedAt, reportedAll, Midway, legRest, toldRest, callOf, toldFrom, reportedFrom}
+use Rattle.whole_frames.specs.Run.{Told, nothing, toldOf, past, Comes, at, on, Inside, Call, submitted, rendered, opening, toldBy, toldAt, legAfter, toldAll, legAfterAll}
+use Rattle.whole_frames.specs.Run.{reportedAt, reportedAll, Midway, legRest, toldRest, callOf, toldFrom, reportedFrom}
 use Rattle.whole_frames.proofs.Accepted.{Accepted, accepted}
 use Rattle.whole_frames.proofs.Along.{Along, along-first, along-next}
 use Rattle.whole_frames.proofs.Blocks.{Moves, moves-then, moves-none, block-moves, inside-moves, block-count}

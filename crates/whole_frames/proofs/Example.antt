@@ -29,19 +29,19 @@ use Rattle.whole_frames.specs.Whole.{loop, Whole, inFrames, Given, whole
 use Rattle.whole_frames.proofs.Second.{second-half-leg}
 
 -- every definition of a run, open: to name this on an `unfolding` line is to name them all
-opened : Unit {0}
+unfoldable pub opened : Unit {0}
 unfolding ofBits toBits ofInt div add mul neg le round time timeOf seconds framesOf loopEnd cleaned cleanedFade fadeAt fetched added settled nextPhase faded sounded frame frames mix eventFault admissible stop begin assignAt endOf interval loopBack rendered caughtUp passOf pass passes segment renderings playerGood outputBad queueGood sound frameOf upTo applied block render toldOf toldAt legAfter toldAll legAfterAll givenAt given
 opened = tt
 
 -- ---- the run
 
 -- 1 and the floats next above it: n of them, from b on
-rising : ℕ → ℕ → List Float
+unfoldable pub rising : ℕ → ℕ → List Float
 rising zero b = []
 rising (suc n) b = ofBits binary32 b ∷ rising n (b + 1)
 
 -- fade entries 0, .25, .5, .75
-lent : ℕ → Lent
+unfoldable pub lent : ℕ → Lent
 lent n =
     record {
       recording = rising 96 0x3f80_0000;
@@ -85,23 +85,23 @@ unfolding opened rising lent leg run
 in-budget = lit≤ tt
 
 -- ---- what it gives, in numbers
-same : List ℕ → List ℕ → Bool
+unfoldable pub same : List ℕ → List ℕ → Bool
 same [] [] = true
 same [] (y ∷ ys) = false
 same (x ∷ xs) [] = false
 same (x ∷ xs) (y ∷ ys) = eqb x y && same xs ys
 
 -- of each block: the completed loops, then the frames of each piece
-counted : List Given → List ℕ
+unfoldable pub counted : List Given → List ℕ
 counted [] = []
 counted (g ∷ gs) = g .completed ∷ g .pieces ++ counted gs
 
 -- the output of all blocks
-heard : List Given → List Float
+unfoldable pub heard : List Given → List Float
 heard [] = []
 heard (g ∷ gs) = g .out ++ heard gs
 
-bits : List Float → List ℕ
+unfoldable pub bits : List Float → List ℕ
 bits [] = []
 bits (x ∷ xs) = toBits binary32 x ∷ bits xs
 

@@ -40,29 +40,27 @@ midway-moves m a p (after {a = t} i) =
 
 -- ---- the first half: from inside a block, where a start was applied, and from a leg, such as a fresh one
 pub first-half : (m : Midway) (a : Told) (p : Player) → PointFrom m a p → noStart a → Drifts (m .leg .setup .rate) (length (a .pieces)) (a .pieces) (m .running .player .position .bits) (p .position .bits)
-first-half m a p i h = let w = midway-moves m a p i in drifts (m .leg .setup .rate) (m .running .player .position .bits) (p .position .bits) (a .pieces) (w .timed) (w .position h)
+first-half m a p i h = let w = midway-moves m a p i in drifts (m .leg .setup .rate) (m .running .player .position .bits) (p .position .bits) (a .pieces) (w .each-timed) (w .position h)
 
 pub first-half-leg : (l : Leg) (a : Told) (p : Player) → Point l a p → noStart a → Drifts (l .setup .rate) (length (a .pieces)) (a .pieces) (l .player .position .bits) (p .position .bits)
-first-half-leg l a p i h = let w = leg-moves l a p i in drifts (l .setup .rate) (l .player .position .bits) (p .position .bits) (a .pieces) (w .timed) (w .position h)
+first-half-leg l a p i h = let w = leg-moves l a p i in drifts (l .setup .rate) (l .player .position .bits) (p .position .bits) (a .pieces) (w .each-timed) (w .position h)
 
 wider : (R k n : ℕ) (ms : List ℕ) (D P : ℤ) → k ≤ n → Drifts R k ms D P → Drifts R n ms D P
 wider R k n ms D P h d = le-trans d (mul-le-mul-right R h)
 
 -- ---- after whole calls, with the pieces that they report. Where a run begins inside a block, the pieces before it may be counted or not
+abbrev DriftsTo : Midway → List Call → Leg → Type 0
+DriftsTo m cs x =
+    let a = then (toldRest m) (toldAll x cs) in
+    noStart a → Drifts (m .leg .setup .rate) (length (a .pieces)) (a .pieces) (m .running .player .position .bits) (legAfterAll x cs .player .position .bits)
+
 pub first-half-reported : (m : Midway) (cs : List Call) (k : ℕ) → noStart (toldFrom m cs) → reportedFrom m cs ≤ k
     → Drifts (m .leg .setup .rate) k (toldFrom m cs .pieces) (m .running .player .position .bits) (legAfterAll (m .leg) (callOf m ∷ cs) .player .position .bits)
 unfolding toldFrom legAfterAll
 first-half-reported m cs k h enough =
+    let w = subst (λ (x : Leg). DriftsTo m cs x) (sym (leg-rest m)) (first-half m _ _ (after (between cs))) h in
     wider (m .leg .setup .rate) _ k (toldFrom m cs .pieces) (m .running .player .position .bits) (legAfterAll (m .leg) (callOf m ∷ cs) .player .position .bits)
-    (subst (λ (n : ℕ). n ≤ k) (reported-from m cs) enough) (after-calls (legAfter (m .leg) (callOf m)) (leg-rest m) h)
-  where
-    after-calls : (x : Leg) → x ≡ legRest m → noStart (then (toldRest m) (toldAll x cs))
-        → Drifts (m .leg .setup .rate) (length (then (toldRest m) (toldAll x cs) .pieces)) (then (toldRest m) (toldAll x cs) .pieces) (m .running .player .position .bits) (legAfterAll x cs .player .position .bits)
-    after-calls x e =
-        subst (λ (x : Leg).
-        noStart (then (toldRest m) (toldAll x cs))
-        → Drifts (m .leg .setup .rate) (length (then (toldRest m) (toldAll x cs) .pieces)) (then (toldRest m) (toldAll x cs) .pieces) (m .running .player .position .bits) (legAfterAll x cs .player .position .bits))
-        (sym e) (λ h. first-half m _ _ (after (between cs)) h)
+    (subst (λ (n : ℕ). n ≤ k) (reported-from m cs) enough) w
 
 pub first-half-leg-reported : (l : Leg) (cs : List Call) → noStart (toldAll l cs) → Drifts (l .setup .rate) (reportedAll l cs) (toldAll l cs .pieces) (l .player .position .bits) (legAfterAll l cs .player .position .bits)
 first-half-leg-reported l cs h =

@@ -3,16 +3,16 @@
 use mathlib.Core.Path.{_≡_, refl, sym, ap, _∙_, subst}
 use Prim.Native.Nat.{ℕ, _+_, _-_, _^_, _≤_}
 use native.Mathlib.Nat.{add-zero}
-use native.Mathlib.Omega.{arith}
 use mathlib.Core.List.{List, [], _∷_, _++_, append-assoc, append-nil}
 use lib.IntN.{ℤ}
-use lib.ListN.{length, length-append}
+use lib.ListN.{length}
 use Rattle.sampler_player.specs.declared.Setup.{Setup}
 use Rattle.sampler_player.specs.declared.Player.{Player}
 use Rattle.sampler_player.specs.Pieces.{Lent}
 use Rattle.sampler_processor.specs.Block.{Running, upTo}
 use Rattle.whole_frames.specs.Run.{piecesTo}
 use Rattle.whole_frames.specs.Whole.{Loop, Given, Part, givenOf, wholePart, wholePieces, wholeRun, Budget}
+use Rattle.whole_frames.proofs.Drift.{count-append}
 use Rattle.whole_frames.proofs.Intervals.{asWhole}
 use Rattle.whole_frames.proofs.Placed.{Placed}
 use Rattle.whole_frames.proofs.Nearest.{Follows}
@@ -35,15 +35,12 @@ module _ (s : Setup) (f : ℕ) (q : Loop) where
   joined-then k x p w v ms ns gs hs ds es a b =
       record {
         to = b .to;
-        follows = subst (λ (y : ℕ). Follows (s .rate) y (b .to) f q v) (sums (length ms) (length ns) (length (ms ++ ns)) (length-append ms ns)) (b .follows);
+        follows = subst (λ (y : ℕ). Follows (s .rate) y (b .to) f q v) (sym (count-append k ms ns)) (b .follows);
         run = λ rest.
             append-assoc gs hs (wholeRun s (asWhole (b .to) f q v) rest)
             ∙ ap (λ (ys : List Given). gs ++ ys) (b .run rest) ∙ a .run (es ++ rest)
             ∙ ap (λ (ys : List Part). wholeRun s (asWhole x f q p) ys) (sym (append-assoc ds es rest));
       }
-    where
-      sums : (b c d : ℕ) → d ≡ b + c → k + b + c ≡ k + d
-      sums b c d h = omega arith
 
   -- with nothing after it
   pub joined-run : (k x : ℕ) (p w : Player) (ms : List ℕ) (gs : List Given) (ds : List Part) → Joined k x p w ms gs ds → gs ≡ wholeRun s (asWhole x f q p) ds

@@ -1,10 +1,11 @@
 -- Demand 3, over the definitions of sampler_player and sampler_processor. First: the first half (`first-half`). Second: the second half (`second-half`). Rates: its budget at four
--- rates. Starts: where a run may begin. Example: a run in full, in numbers.
+-- rates. Starts: where a run may begin. Example, ExampleInside: runs in full, in numbers.
 pub mod First
 pub mod Second
 pub mod Rates
 pub mod Starts
 pub mod Example
+pub mod ExampleInside
 -- The first half's way. Lasting: what passes leave. Drift: the bound over a list of pieces. Accepted: what a render that is not refused has been given. Along, Blocks: a block. Calls:
 -- calls, and the pieces that they report (`reported-all`).
 pub mod Lasting

@@ -1,7 +1,7 @@
 -- Inside a block that is not refused, the start position is 0 to 2^42 and the loop points pass 11 and 12, between any two events.
 -- The idea: passes change neither, and an event that does is admissible. Assumes nothing.
 use mathlib.Core.Path.{_≡_, refl, sym, ap, subst}
-use Prim.Native.Nat.{_+_, _-_, _^_}
+use Prim.Native.Nat.{ℕ, _+_, _-_, _^_}
 use mathlib.Core.Bool.{true, false, not, and-eq-true-iff}
 use mathlib.Core.List.{List, _∷_}
 use borrow.Author.Tests.{not-false}
@@ -18,7 +18,7 @@ use Rattle.sampler_player.specs.declared.Points.{Points}
 use Rattle.sampler_player.specs.declared.Setup.{Setup}
 use Rattle.sampler_player.specs.declared.Player.{Player}
 use Rattle.sampler_player.specs.Clock.{clockAt}
-use Rattle.sampler_player.specs.Assign.{stop}
+use Rattle.sampler_player.specs.Assign.{stop, assign}
 use Rattle.sampler_player.specs.Events.{apply}
 use Rattle.sampler_player.specs.Pieces.{Lent, segment}
 use Rattle.sampler_player.specs.Sound.{pointsGood, loopGood}
@@ -45,14 +45,17 @@ placed-kept s p w x y i =
     }
 
 -- ---- an admissible event
+pub assign-points : (R : ℕ) (u : ℤ) (p : Player) → assign (clockAt R) u p .points ≡ p .points
+assign-points R u p = assign-leaves (λ (x : Player). x .points) (λ vs a x. refl) (clockAt R) u p
+
 placed-apply : (s : Setup) (k : Kind) (d : ℤ) (p : Player) → positionsBad k ≡ false → loopBad (s .rate) (s .fade) k ≡ false → Placed s p → Placed s (apply (s .rate) k d p)
 unfolding apply stop
 placed-apply s (Start u) d p h g i =
     record {
       start = not-false (within (pos 0) (pos (2 ^ 42)) (u .bits)) h;
-      points = subst (λ (t : Points). pointsGood s t ≡ true) (sym (assign-leaves (λ (x : Player). x .points) (λ vs a x. refl) (clockAt (s .rate)) _ p)) (i .points);
+      points = subst (λ (t : Points). pointsGood s t ≡ true) (sym (assign-points (s .rate) _ p)) (i .points);
     }
-placed-apply s StartImmediate d p h g i = record { start = refl; points = subst (λ (t : Points). pointsGood s t ≡ true) (sym (assign-leaves (λ (x : Player). x .points) (λ vs a x. refl) (clockAt (s .rate)) _ p)) (i .points) }
+placed-apply s StartImmediate d p h g i = record { start = refl; points = subst (λ (t : Points). pointsGood s t ≡ true) (sym (assign-points (s .rate) _ p)) (i .points) }
 placed-apply s Stop d p h g i = record { start = i .start; points = i .points }
 placed-apply s (EnableLoop from end) d p h g i = record { start = i .start; points = both (ap not h) (ap not g) }
 placed-apply s CancelLoop d p h g i = record { start = i .start; points = refl }

@@ -6,7 +6,7 @@ use native.Mathlib.Nat.{le-trans}
 use native.Mathlib.Omega.{arith}
 use mathlib.Core.List.{List, [], _∷_, _++_}
 use lib.IntN.{ℤ, natAbs}
-use lib.ListN.{length, length-append}
+use lib.ListN.{length}
 use lib.Ieee.{Float}
 use Rattle.sampler_event.specs.declared.Event.{Event}
 use Rattle.event_processor.specs.Queue.{pending}
@@ -18,6 +18,7 @@ use Rattle.sampler_processor.specs.Block.{Running, upTo}
 use Rattle.whole_frames.specs.Run.{nextStop, opening, toldAll, legAfterAll}
 use Rattle.whole_frames.specs.Whole.{Loop, Given, Part, parts, given, partNext, givenNext, Plays, calls, cut, Budget}
 use Rattle.whole_frames.proofs.Accepted.{Accepted, accepted}
+use Rattle.whole_frames.proofs.Drift.{count-append}
 use Rattle.whole_frames.proofs.Along.{stop-inside}
 use Rattle.whole_frames.proofs.Calls.{AlongAt, along-opening, calls-setup}
 use Rattle.whole_frames.proofs.Placed.{Placed, placed-loops}
@@ -64,7 +65,7 @@ module _ (f : ℕ) (q : Loop) where
       let es = pending (y .queue) in
       let t = givenNext (y .setup) b start es r in
       let xs = toldAll l cs .pieces in
-      let n = length-append xs (t .pieces) in
+      let n = count-append k xs (t .pieces) in
       let e = calls-setup l cs in
       let along = along-opening y b out start a in
       let j =
@@ -73,7 +74,7 @@ module _ (f : ℕ) (q : Loop) where
       let i' : Follows (y .setup .rate) (k + length xs) (j .to) f q (y .player) = subst (λ (s : Setup). Follows (s .rate) (k + length xs) (j .to) f q (y .player)) (sym e) (j .follows) in
       let u' : Budget (y .setup .rate) (k + length xs + length (t .pieces)) (t .completed) =
       subst (λ (s : Setup). Budget (s .rate) (k + length xs + length (t .pieces)) (t .completed)) (sym e)
-      (subst (λ (m : ℕ). Budget (l .setup .rate) m (t .completed)) (sums k (length xs) (length (t .pieces)) (length (xs ++ t .pieces)) n) u) in
+      (subst (λ (m : ℕ). Budget (l .setup .rate) m (t .completed)) n u) in
       let v = upTo (y .setup) b start (nextStop (y .setup) b start es r) r .player in (
         v,
         joined-then (l .setup) f q k x (l .player) (y .player) v xs (t .pieces) (given l cs) (t ∷ []) (parts l cs) (partNext (y .setup) b start es r ∷ []) j
@@ -81,6 +82,3 @@ module _ (f : ℕ) (q : Loop) where
             (next-joined y b out start a 0 0 es r along f q (k + length xs) (j .to) i' (placed-loops (y .setup) (y .player) (a .loops))
             (at-most (y .player .position .bits) (i' .at) (2 ^ 48) (i' .position) (a .position)) u')),
       )
-    where
-      sums : (a b c d : ℕ) → d ≡ b + c → a + d ≡ a + b + c
-      sums a b c d h = omega arith

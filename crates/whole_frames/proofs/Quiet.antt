@@ -5,9 +5,9 @@ use Prim.Native.Nat.{ℕ, zero, suc, _+_, _^_, _≤_}
 use native.Mathlib.Nat.{le-refl, le-trans}
 use native.Mathlib.Omega.{arith}
 use mathlib.Core.Bool.{Bool, true, false, cond}
-use mathlib.Core.List.{List, [], _∷_, _++_}
+use mathlib.Core.List.{List, [], _∷_, _++_, append-eq-nil-iff}
 use lib.IntN.{ℤ}
-use lib.ListN.{length, length-append}
+use lib.ListN.{length}
 use lib.Ieee.{Float}
 use Rattle.sampler_event.specs.declared.Event.{Event}
 use Rattle.laws.specs.Rules.{firstBroken}
@@ -22,6 +22,7 @@ use Rattle.sampler_processor.specs.Block.{Running, Ended, frameOf, isTaken, upT
 use Rattle.sampler_processor.specs.Calls.{renderedBy, render}
 use Rattle.whole_frames.specs.Run.{Told, piecesTo, toldOn, toldOf, nextStop, Call, submitted, rendered, opening, toldBy, toldAt, legAfter, toldAll, legAfterAll}
 use Rattle.whole_frames.specs.Whole.{Loop, givenOf, onlyTaken, partsAt, givenAt, parts, given, Budget}
+use Rattle.whole_frames.proofs.Drift.{count-append}
 use Rattle.whole_frames.proofs.Accepted.{Accepted, accepted}
 use Rattle.whole_frames.proofs.Calls.{submit-kept, call-setup}
 use Rattle.whole_frames.proofs.Placed.{placed-loops}
@@ -48,10 +49,6 @@ quiet-block s b start (e ∷ es) q r h =
         × (cond x (frameOf (s .rate) start (r .now) (e .time .bits)) (b .block) ≡ b .block)
     go tell on true h = absurd (let z : _≡_ {A = ℕ} 0 1 = cc in omega arith)
     go tell on false h = (refl, refl, refl)
-
-pub none-of : (xs ys : List Event) → xs ++ ys ≡ [] → (xs ≡ []) × (ys ≡ [])
-none-of [] ys h = (refl, h)
-none-of (x ∷ xs) ys h = absurd (let z : _≡_ {A = ℕ} 0 1 = cc in omega arith)
 
 -- ---- a call that renders, by its number
 module _ (l : Leg) (b : Lent) (out : List Float) (start : ℤ) (f : ℕ) (q : Loop) where
@@ -107,7 +104,7 @@ module _ (f : ℕ) (q : Loop) where
   unfolding toldAll legAfterAll
   calls-grow l [] none = le-refl _
   calls-grow l (c ∷ cs) none =
-      let h = none-of (toldAt l c .events) (toldAll (legAfter l c) cs .events) none in
+      let h = append-eq-nil-iff {p = toldAt l c .events} {q = toldAll (legAfter l c) cs .events} .0 none in
       le-trans (call-grows l c (h .0)) (calls-grow (legAfter l c) cs (h .1))
 
   pub calls-joined : (l : Leg) (cs : List Call) (k x : ℕ) → toldAll l cs .events ≡ [] → Follows (l .setup .rate) k x f q (l .player)
@@ -120,8 +117,8 @@ module _ (f : ℕ) (q : Loop) where
       let z = legAfterAll y cs in
       let xs = toldAt l c .pieces in
       let ys = toldAll y cs .pieces in
-      let h = none-of (toldAt l c .events) (toldAll y cs .events) none in
-      let n = length-append xs ys in
+      let h = append-eq-nil-iff {p = toldAt l c .events} {q = toldAll y cs .events} .0 none in
+      let n = count-append k xs ys in
       let a =
       call-joined l c k x (h .0) i
       (budget-before (l .setup .rate) (k + length xs) (y .player .completed) (k + length (xs ++ ys)) (z .player .completed) (omega (arith, n)) (calls-grow y cs (h .1)) u) in
@@ -130,7 +127,4 @@ module _ (f : ℕ) (q : Loop) where
       (subst (λ (s : Setup). Joined s f q (k + length xs) (a .to) (y .player) (z .player) ys (given y cs) (parts y cs)) e
       (calls-joined y cs (k + length xs) (a .to) (h .1) (subst (λ (s : Setup). Follows (s .rate) (k + length xs) (a .to) f q (y .player)) (sym e) (a .follows))
       (subst (λ (s : Setup). Budget (s .rate) (k + length xs + length ys) (z .player .completed)) (sym e)
-      (subst (λ (m : ℕ). Budget (l .setup .rate) m (z .player .completed)) (sums k (length xs) (length ys) (length (xs ++ ys)) n) u))))
-    where
-      sums : (a b c d : ℕ) → d ≡ b + c → a + d ≡ a + b + c
-      sums a b c d h = omega arith
+      (subst (λ (m : ℕ). Budget (l .setup .rate) m (z .player .completed)) n u))))

@@ -10,12 +10,11 @@ use mathlib.Core.Option.{Option, none, some}
 use lib.IntN.{ℤ, pos, _+ℤ_}
 use lib.ListN.{length}
 use lib.Ieee.Nearest.{closest}
-use Rattle.laws.proofs.Near.{Near}
 use Rattle.timestamp.specs.declared.Timestamp.{Timestamp}
 use Rattle.timestamp.specs.Time.{timeOf, frameNear}
 use Rattle.timestamp.proofs.Time.{T-near}
 use Rattle.timestamp.proofs.Frames.{S-near}
-use Rattle.timestamp.proofs.Drift.{Drift}
+use Rattle.timestamp.proofs.Drift.{Drift, one-more}
 use Rattle.sampler_player.specs.declared.Points.{Points}
 use Rattle.sampler_player.specs.declared.Points.the-variants.{Absent, Between}
 use Rattle.sampler_player.specs.declared.Setup.{Setup}
@@ -38,9 +37,6 @@ budget-before R k c k' c' p q h =
 -- the position stays in range: n + left does not change
 in-range : (R k c n P left : ℕ) → 0 < R → Budget R k c → (n + left) * 2 ^ 32 ≤ (2 ^ 48 + 2 ^ 40) * R → Drift R k n P → P ≤ 2 ^ 48 + 2 ^ 46
 in-range R k c n P left r b h d = le-of-mul-le-mul-right {k = R} (omega arith) r
-
-drift-on : (R k n P i t : ℕ) → Near t (i * 2 ^ 32) R → Drift R k n P → Drift R (k + 1) (n + i) (P + t)
-drift-on R k n P i t x d = omega arith
 
 -- ---- Assign does the same beside it
 chosen-same : (n f : ℕ) (q : Loop) (t : Bool) (v : ℕ) (p : Player) → cond t (asWhole n f q p) (begin v (stop (asWhole n f q p))) ≡ asWhole n f q (cond t p (begin v (stop p)))
@@ -127,7 +123,7 @@ module _ (s : Setup) (b : Lent) (f : ℕ) (q : Loop) (low : 8000 ≤ s .rate) (h
                   record {
                     at = z .at + t;
                     position = ap (λ (y : ℤ). y +ℤ timeOf (s .rate) (suc j)) (z .position) ∙ ap (λ (y : ℤ). pos (z .at) +ℤ y) (x .0);
-                    drift = drift-on (s .rate) k n (z .at) (suc j) t (x .1) (z .drift);
+                    drift = turned (s .rate) k n (z .at) (suc j) t (one-more (s .rate) k n (z .at) (suc j) t (x .1) (z .drift));
                     from = z .from;
                     start = z .start;
                     most = z .most;
@@ -141,6 +137,9 @@ module _ (s : Setup) (b : Lent) (f : ℕ) (q : Loop) (low : 8000 ≤ s .rate) (h
     where
       level : (r i : ℕ) → i ≤ r → i ≡ r - (r - i)
       level r i h = omega arith
+
+      turned : (R k n P i t : ℕ) → Drift R (suc k) (i + n) (t + P) → Drift R (k + 1) (n + i) (P + t)
+      turned R k n P i t d = omega arith
 
       still : (n l i : ℕ) → i ≤ l → n + l ≡ n + i + (l - i)
       still n l i h = omega arith

@@ -7,7 +7,7 @@ use native.Mathlib.Omega.{arith}
 use mathlib.Core.List.{List, [], _∷_, _++_}
 use lib.Dec.{lit≤}
 use lib.IntN.{pos}
-use lib.ListN.{length, length-append}
+use lib.ListN.{length}
 use Rattle.timestamp.proofs.Drift.{drift-none}
 use Rattle.event_processor.specs.Queue.{pending}
 use Rattle.sampler_player.specs.declared.Player.{Player}
@@ -15,6 +15,7 @@ use Rattle.sampler_processor.specs.declared.Leg.{Leg}
 use Rattle.sampler_processor.specs.Block.{Ended, upTo}
 use Rattle.whole_frames.specs.Run.{nextStop, opening, Midway, legRest, toldRest}
 use Rattle.whole_frames.specs.Whole.{Loop, pointsIn, inFrames, Whole, Given, Part, wholeRun, Plays, midwayPart, midwayGiven, PlaysFrom, short, long, Budget}
+use Rattle.whole_frames.proofs.Drift.{count-append}
 use Rattle.whole_frames.proofs.Accepted.{Accepted, accepted}
 use Rattle.whole_frames.proofs.Calls.{AlongAt, along-midway}
 use Rattle.whole_frames.proofs.Intervals.{asWhole}
@@ -79,21 +80,18 @@ second-half m f q ds gs ms c w h u = go ds gs ms c h u
     whole : (v : Player) (ds : List Part) (gs : List Given) (ms : List ℕ) → Joined (m .leg .setup) f q 0 0 p v ms gs ds → gs ≡ wholeRun (m .leg .setup) (inFrames f q p) ds
     whole v ds gs ms j = joined-run (m .leg .setup) f q 0 0 p v ms gs ds j ∙ ap (λ (x : Player). wholeRun (m .leg .setup) x ds) (first-whole f q p (w .completed))
 
-    sums : (b c d : ℕ) → d ≡ b + c → d ≡ 0 + b + c
-    sums b c d h = omega arith
-
     go : (ds : List Part) (gs : List Given) (ms : List ℕ) (c : ℕ) → PlaysFrom m ds gs ms c → Budget (m .leg .setup .rate) (length ms) c → gs ≡ wholeRun (m .leg .setup) (inFrames f q p) ds
     go ds gs ms c short u = whole _ ds gs ms (first (subst (λ (n : ℕ). Budget (m .leg .setup .rate) n (midwayGiven m .completed)) (sym (zero-add (length (midwayGiven m .pieces)))) u))
     go ds gs ms c (long {ds = es} {gs = hs} {ms = ns} none h) u =
         let xs = midwayGiven m .pieces in
-        let n = length-append xs ns in
+        let n : length (xs ++ ns) ≡ 0 + length xs + length ns = sym (zero-add (length (xs ++ ns))) ∙ count-append 0 xs ns in
         let y = legRest m in
         let e = rest-is m none in
         let grows = subst (λ (z : Player). z .completed ≤ c) (sym e) (plays-grow f q y es hs ns c h) in
         let j = first (budget-before (m .leg .setup .rate) (0 + length xs) (midwayGiven m .completed) (length (xs ++ ns)) c (omega (arith, n)) grows u) in
         let t =
         plays-joined f q y es hs ns c (0 + length xs) (j .to) h (subst (λ (z : Player). Follows (m .leg .setup .rate) (0 + length xs) (j .to) f q z) e (j .follows))
-        (subst (λ (k : ℕ). Budget (m .leg .setup .rate) k c) (sums (length xs) (length ns) (length (xs ++ ns)) n) u) in
+        (subst (λ (k : ℕ). Budget (m .leg .setup .rate) k c) n u) in
         whole (t .0) (midwayPart m ∷ es) (midwayGiven m ∷ hs) (xs ++ ns)
         (joined-then (m .leg .setup) f q 0 0 p (y .player) (t .0) xs ns (midwayGiven m ∷ []) hs (midwayPart m ∷ []) es
         (subst (λ (z : Player). Joined (m .leg .setup) f q 0 0 p z xs (midwayGiven m ∷ []) (midwayPart m ∷ [])) e j) (t .1))

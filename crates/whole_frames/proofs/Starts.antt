@@ -15,14 +15,13 @@ use Rattle.sampler_player.specs.declared.Points.{Points}
 use Rattle.sampler_player.specs.declared.Setup.{Setup}
 use Rattle.sampler_player.specs.declared.Player.{Player}
 use Rattle.sampler_player.specs.Assign.{activeAt, stop, begin, assignAt}
-use Rattle.sampler_player.specs.Clock.{clockAt}
 use Rattle.sampler_player.specs.Events.{begun, apply}
-use Rattle.sampler_player.proofs.Assign.{assign-leaves}
 use Rattle.sampler_player.specs.Pieces.{Lent}
 use Rattle.sampler_processor.specs.Block.{Running, frameOf, upTo, applied}
 use Rattle.sampler_processor.specs.Calls.{fresh}
 use Rattle.whole_frames.specs.Run.{past}
 use Rattle.whole_frames.specs.Whole.{Loop, noLoop, Nearest, NearestPoints, Whole}
+use Rattle.whole_frames.proofs.Placed.{assign-points}
 
 -- ---- D is the delay
 pub start-delay : (R : ℕ) (u : Timestamp) (d : ℤ) (p : Player) → apply R (Start u) d p .position .bits ≡ d
@@ -35,12 +34,12 @@ nearest-zero R = subst (λ (n : ℕ). 2 * natAbs (pos n -ℤ pos (0 * 2 ^ 32)) �
 -- ---- a start on its frame, with no delay
 pub start-whole : (R f : ℕ) (q : Loop) (u : Timestamp) (p : Player) → Nearest R u f → NearestPoints R (p .points) q → Whole R f q (apply R (Start u) (pos 0) p)
 unfolding apply
-start-whole R f q u p h g = record { position = refl; completed = refl; start = h; points = subst (λ (w : Points). NearestPoints R w q) (sym (assign-leaves (λ (x : Player). x .points) (λ vs a x. refl) (clockAt R) _ p)) g }
+start-whole R f q u p h g = record { position = refl; completed = refl; start = h; points = subst (λ (w : Points). NearestPoints R w q) (sym (assign-points R _ p)) g }
 
 -- StartImmediate always is one
 pub immediate-whole : (R : ℕ) (q : Loop) (d : ℤ) (p : Player) → NearestPoints R (p .points) q → Whole R 0 q (apply R StartImmediate d p)
 unfolding apply
-immediate-whole R q d p g = record { position = refl; completed = refl; start = nearest-zero R; points = subst (λ (w : Points). NearestPoints R w q) (sym (assign-leaves (λ (x : Player). x .points) (λ vs a x. refl) (clockAt R) _ p)) g }
+immediate-whole R q d p g = record { position = refl; completed = refl; start = nearest-zero R; points = subst (λ (w : Points). NearestPoints R w q) (sym (assign-points R _ p)) g }
 
 pub fresh-whole : (s : Setup) → Whole (s .rate) 0 noLoop (fresh s .player)
 fresh-whole s = record { position = refl; completed = refl; start = nearest-zero (s .rate); points = tt }
