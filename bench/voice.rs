@@ -39,7 +39,8 @@ extern "C" {
         rn: usize,
         fade: *const f32,
         fade_length: usize,
-        two: bool,
+        recording: usize,
+        output: usize,
     ) -> usize;
     fn voices_render(
         i: usize,
@@ -56,7 +57,8 @@ extern "C" {
         rn: usize,
         fade: *const f32,
         fade_length: usize,
-        two: bool,
+        recording: usize,
+        output: usize,
     );
 }
 
@@ -166,7 +168,7 @@ impl Buffers {
 
         let voice = |kind| unsafe {
             let (i, p) = (PLACE, POSITION);
-            voice_render(kind, i, p, out, out_length, BLOCK, 0, BLOCK, rec, rec_length, RECORDED, table, all, true);
+            voice_render(kind, i, p, out, out_length, BLOCK, 0, BLOCK, rec, rec_length, RECORDED, table, all, 2, 2);
         };
 
         match case {
@@ -176,7 +178,7 @@ impl Buffers {
             Case::Both => unsafe {
                 let (i, p, q) = (PLACE, POSITION, OTHER_POSITION);
                 voices_render(
-                    i, p, i, q, out, out_length, BLOCK, 0, BLOCK, rec, rec_length, RECORDED, table, all, true,
+                    i, p, i, q, out, out_length, BLOCK, 0, BLOCK, rec, rec_length, RECORDED, table, all, 2, 2,
                 );
             },
         }

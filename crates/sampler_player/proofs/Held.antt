@@ -9,6 +9,7 @@ use lib.ListN.{length}
 use lib.Ieee.{Float}
 use Rattle.sampler_voice.specs.declared.Phase.{Phase}
 use Rattle.sampler_voice.specs.declared.Phase.the-variants.{Stopped, FadingIn, Playing, FadingOut}
+use Rattle.sampler_voice.specs.declared.Channels.{Channels}
 use Rattle.sampler_voice.specs.declared.Voice.{Voice}
 use Rattle.sampler_voice.specs.Voices.{isStopped, isHeld, ended, endedVoice, settled, nextPhase, Heard, lent, frame, frames, mix}
 use Rattle.sampler_player.specs.declared.Active.{Active}
@@ -75,29 +76,29 @@ next-held F (FadingOut i) = go (ltb i F)
     go true = more-out (i + 1) (ltb (i + 1) F)
     go false = refl
 
-module _ (rec : List Float) (rn : ℕ) (fade : List Float) (n : ℕ) (two : Bool) where
-  frames-held : (j k : ℕ) (h : Heard) → isHeld (frames rec rn fade n two j k h .voice .phase) ≡ isHeld (h .voice .phase)
+module _ (rec : List Float) (rn : ℕ) (fade : List Float) (n : ℕ) (ch : Channels) where
+  frames-held : (j k : ℕ) (h : Heard) → isHeld (frames rec rn fade n ch j k h .voice .phase) ≡ isHeld (h .voice .phase)
   unfolding frames frame
   frames-held j zero h = refl
-  frames-held j (suc k) h = next-held (length fade) (frames rec rn fade n two j k h .voice .phase) ∙ frames-held j k h
+  frames-held j (suc k) h = next-held (length fade) (frames rec rn fade n ch j k h .voice .phase) ∙ frames-held j k h
 
-  mix-none : (j k : ℕ) (vs : List Voice) (out : List Float) → noneHeld (mix rec rn fade n two j k vs out .voices) ≡ noneHeld vs
+  mix-none : (j k : ℕ) (vs : List Voice) (out : List Float) → noneHeld (mix rec rn fade n ch j k vs out .voices) ≡ noneHeld vs
   unfolding mix
   mix-none j k [] out = refl
   mix-none j k (v ∷ vs) out =
-      let h = frames rec rn fade n two j k (lent v out) in
+      let h = frames rec rn fade n ch j k (lent v out) in
       λ i. not (frames-held j k (lent v out) i) && mix-none j k vs (h .out) i
 
-  mix-only : (a j k : ℕ) (vs : List Voice) (out : List Float) → onlyHeld a (mix rec rn fade n two j k vs out .voices) ≡ onlyHeld a vs
+  mix-only : (a j k : ℕ) (vs : List Voice) (out : List Float) → onlyHeld a (mix rec rn fade n ch j k vs out .voices) ≡ onlyHeld a vs
   unfolding mix
   mix-only a j k [] out = refl
   mix-only zero j k (v ∷ vs) out =
-      let h = frames rec rn fade n two j k (lent v out) in
+      let h = frames rec rn fade n ch j k (lent v out) in
       λ i. frames-held j k (lent v out) i && mix-none j k vs (h .out) i
   mix-only (suc a) j k (v ∷ vs) out =
-      let h = frames rec rn fade n two j k (lent v out) in
+      let h = frames rec rn fade n ch j k (lent v out) in
       λ i. not (frames-held j k (lent v out) i) && mix-only a j k vs (h .out) i
 
-  pub mix-active : (a : Active) (j k : ℕ) (vs : List Voice) (out : List Float) → activeGood a (mix rec rn fade n two j k vs out .voices) ≡ activeGood a vs
+  pub mix-active : (a : Active) (j k : ℕ) (vs : List Voice) (out : List Float) → activeGood a (mix rec rn fade n ch j k vs out .voices) ≡ activeGood a vs
   mix-active Neither j k vs out = mix-none j k vs out
   mix-active (Number i) j k vs out = mix-only i j k vs out

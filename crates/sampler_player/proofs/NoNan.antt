@@ -8,7 +8,7 @@ use Rattle.sampler_player.specs.declared.Setup.{Setup}
 use Rattle.sampler_player.specs.declared.Points.{Points}
 use Rattle.sampler_player.specs.declared.Points.the-variants.{Absent, Between}
 use Rattle.sampler_player.specs.Clock.{Clock}
-use Rattle.sampler_player.specs.Pieces.{Lent, bothMixed, Going, after, interval, rendered, caughtUp, passOf, pass, passes, segment}
+use Rattle.sampler_player.specs.Pieces.{Lent, sides, Going, after, interval, rendered, caughtUp, passOf, pass, passes, segment}
 
 abbrev Whole : Option Going → Type 0
 Whole none = Unit {0}
@@ -17,7 +17,7 @@ Whole (some g) = Numbers (g .out)
 module _ (k : Clock) (s : Setup) (b : Lent) where
   rendered-numbers : (n : ℕ) (g : Going) → Numbers (g .out) → Numbers (rendered k s b n g .out)
   unfolding rendered
-  rendered-numbers n g h = mix-numbers (b .recording) (s .frames) (b .table) (b .block) (bothMixed s b) (g .at) n (g .player .voices) (g .out) h
+  rendered-numbers n g h = mix-numbers (b .recording) (s .frames) (b .table) (b .block) (sides s b) (g .at) n (g .player .voices) (g .out) h
 
   caught-up-numbers : (x : Points) (g : Going) → Numbers (g .out) → Whole (caughtUp k s b x g)
   unfolding caughtUp

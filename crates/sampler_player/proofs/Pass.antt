@@ -22,7 +22,7 @@ use Rattle.sampler_player.specs.declared.Setup.{Setup}
 use Rattle.sampler_player.specs.declared.Player.{Player}
 use Rattle.sampler_player.specs.Clock.{clockAt}
 use Rattle.sampler_player.specs.Assign.{assign}
-use Rattle.sampler_player.specs.Pieces.{Lent, bothMixed, Going, interval, loopBack, rendered}
+use Rattle.sampler_player.specs.Pieces.{Lent, sides, Going, interval, loopBack, rendered}
 use Rattle.sampler_player.specs.inner.Kept.{kept, voicesKept}
 use Rattle.sampler_player.proofs.Assign.{counted}
 use Rattle.sampler_player.proofs.Kept.{opened, closed, stands, stands-within, stands-at}
@@ -90,10 +90,10 @@ module _ (s : Setup) (b : Lent) (lo : 8000 ≤ s .rate) (hi : s .rate ≤ 96000)
         let f : t ≤ n * 2 ^ 20 = brief (s .rate) n t lo a (e .1) in
         closed s x (rendered (clockAt (s .rate)) s b n g .player)
         (record {
-          active = mix-active (b .recording) (s .frames) (b .table) (b .block) (bothMixed s b) (p .active) (g .at) n (p .voices) (g .out) ∙ o .active;
+          active = mix-active (b .recording) (s .frames) (b .table) (b .block) (sides s b) (p .active) (g .at) n (p .voices) (g .out) ∙ o .active;
           voices =
-              subst (λ (F : ℕ). voicesKept F x (mix (b .recording) (s .frames) (b .table) (b .block) (bothMixed s b) (g .at) n (p .voices) (g .out) .voices) ≡ true) table
-              (mix-voices (b .recording) (s .frames) (b .table) (b .block) (bothMixed s b) (g .at) n x (p .voices) (g .out)
+              subst (λ (F : ℕ). voicesKept F x (mix (b .recording) (s .frames) (b .table) (b .block) (sides s b) (g .at) n (p .voices) (g .out) .voices) ≡ true) table
+              (mix-voices (b .recording) (s .frames) (b .table) (b .block) (sides s b) (g .at) n x (p .voices) (g .out)
               (subst (λ (F : ℕ). voicesKept F (n + x) (p .voices) ≡ true) (sym table) (o .voices)));
           position =
               stands-within x (p .position .bits +ℤ timeOf (s .rate) n)

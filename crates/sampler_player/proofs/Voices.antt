@@ -9,6 +9,7 @@ use mathlib.Core.List.{List, [], _∷_, map}
 use lib.Dec.{leb}
 use lib.ListN.{length, getD, set}
 use lib.Ieee.{Float}
+use Rattle.sampler_voice.specs.declared.Channels.{Channels}
 use Rattle.sampler_voice.specs.declared.Voice.{Voice}
 use Rattle.sampler_voice.specs.Voices.{silent, isStopped, fadeGood, startedAt, endedVoice, settled, Heard, lent, frame, frames, mix}
 use Rattle.sampler_voice.specs.inner.Room.{Ahead}
@@ -58,13 +59,13 @@ most F x (v ∷ vs) (suc i) h = most F x vs i (parts F x v vs h .1)
 pub voices-near : (F x k : ℕ) (vs : List Voice) → k ≤ 4096 → voicesKept F x vs ≡ true → Ahead k vs
 voices-near F x k vs l h i = let m = most F x vs i h in omega (arith, m)
 
-module _ (rec : List Float) (rn : ℕ) (fade : List Float) (n : ℕ) (two : Bool) where
+module _ (rec : List Float) (rn : ℕ) (fade : List Float) (n : ℕ) (ch : Channels) where
   frames-voiced : (j k x : ℕ) (h : Heard) → Voiced (length fade) (k + x) (h .voice .phase) (h .voice .position)
-      → Voiced (length fade) x (frames rec rn fade n two j k h .voice .phase) (frames rec rn fade n two j k h .voice .position)
+      → Voiced (length fade) x (frames rec rn fade n ch j k h .voice .phase) (frames rec rn fade n ch j k h .voice .position)
   unfolding frames frame
   frames-voiced j zero x h v = subst (λ (y : ℕ). Voiced (length fade) y (h .voice .phase) (h .voice .position)) (zero-add x) v
   frames-voiced j (suc k) x h v =
-      let g = frames rec rn fade n two j k h .voice in
+      let g = frames rec rn fade n ch j k h .voice in
       let i = frames-voiced j k (suc x) h (subst (λ (y : ℕ). Voiced (length fade) y (h .voice .phase) (h .voice .position)) (on k x) v) in
       next-voiced (length fade) x (settled (length fade) (g .phase)) (g .position) (i .most) (settled-fits (length fade) (suc x) (g .phase) (g .position) (i .fits))
     where
@@ -72,10 +73,10 @@ module _ (rec : List Float) (rn : ℕ) (fade : List Float) (n : ℕ) (two : Bool
       on k x = omega arith
 
   pub mix-voices : (j k x : ℕ) (vs : List Voice) (out : List Float) → voicesKept (length fade) (k + x) vs ≡ true
-      → voicesKept (length fade) x (mix rec rn fade n two j k vs out .voices) ≡ true
+      → voicesKept (length fade) x (mix rec rn fade n ch j k vs out .voices) ≡ true
   unfolding mix
   mix-voices j k x [] out h = refl
   mix-voices j k x (v ∷ vs) out h =
-      let f = frames rec rn fade n two j k (lent v out) in
+      let f = frames rec rn fade n ch j k (lent v out) in
       let p = parts (length fade) (k + x) v vs h in
-      whole (length fade) x (f .voice) (mix rec rn fade n two j k vs (f .out) .voices) (frames-voiced j k x (lent v out) (p .0)) (mix-voices j k x vs (f .out) (p .1))
+      whole (length fade) x (f .voice) (mix rec rn fade n ch j k vs (f .out) .voices) (frames-voiced j k x (lent v out) (p .0)) (mix-voices j k x vs (f .out) (p .1))

@@ -1,12 +1,11 @@
 -- "Pieces": the end E, the interval, a pass, and the passes of a segment, at any clock. Definitions only.
 use Prim.Native.Nat.{ℕ, zero, suc, _+_, _-_, _^_, min}
-use mathlib.Core.Bool.{Bool, cond}
 use mathlib.Core.List.{List, [], _∷_}
 use mathlib.Core.Option.{Option, none, some}
-use lib.Dec.{eqb}
 use lib.IntN.{ℤ, pos, _+ℤ_, _-ℤ_}
 use lib.Ieee.{Float}
 use Rattle.timestamp.specs.declared.Timestamp.{Timestamp}
+use Rattle.sampler_voice.specs.declared.Channels.{Channels}
 use Rattle.sampler_voice.specs.declared.Voice.{Voice}
 use Rattle.sampler_voice.specs.Voices.{Mixed, mix}
 use Rattle.sampler_player.specs.declared.Points.{Points}
@@ -27,9 +26,9 @@ pub record Lent : Type 0 where
 abbrev pub lending : List Float → List Float → ℕ → ℕ → Lent
 lending rec table channels block = record { recording = rec; table = table; channels = channels; block = block }
 
--- "The smaller of the two channel counts is mixed": both channels where it is 2
-abbrev pub bothMixed : Setup → Lent → Bool
-bothMixed s b = eqb (min (s .channels) (b .channels)) 2
+-- how many channels the recording has, and the output
+abbrev pub sides : Setup → Lent → Channels
+sides s b = record { recording = s .channels; output = b .channels }
 
 module _ (k : Clock) (s : Setup) where
   -- "End E without loop: T(recording frames). With loop: .."
@@ -125,7 +124,7 @@ module _ (k : Clock) (s : Setup) (b : Lent) where
   -- "Otherwise render, position += T(piece), pieces + 1"
   unfoldable pub rendered : ℕ → Going → Going
   rendered n g =
-      let m = mix (b .recording) (s .frames) (b .table) (b .block) (bothMixed s b) (g .at) n (g .player .voices) (g .out) in
+      let m = mix (b .recording) (s .frames) (b .table) (b .block) (sides s b) (g .at) n (g .player .voices) (g .out) in
       record {
         player = advanced k s n (m .voices) (g .player);
         out = m .out;

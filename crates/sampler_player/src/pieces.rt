@@ -8,6 +8,7 @@ use crate::Played;
 use crate::Player;
 use crate::Points;
 use crate::Setup;
+use sampler_voice::Channels;
 use sampler_voice::Voices;
 use timestamp::Timestamp;
 use timestamp::frame_near;
@@ -160,11 +161,14 @@ impl Player {
         requires { ⌜ at + n ≤ block ⌝ ∗ ⌜ kept setup n self ≡ true ⌝ }
         ensures { λ r. ⌜ ending r (now (out .exit)) 1 ≡ leftBy (rendered (clockAt (setup .rate)) setup (lending (now (rec .entry)) (now (fade .entry)) channels block) n (starting self (now (out .entry)) at n)) ⌝ }
     {
-        let two = (setup.channels == 2) & (channels == 2);
+        let sides = Channels {
+            recording: setup.channels,
+            output: channels,
+        };
         let frames = setup.frames;
         let voices = self.voices;
         let all = Voices { voices };
-        let heard = all.render(out, block, at, n, rec, frames, fade, two);
+        let heard = all.render(out, block, at, n, rec, frames, fade, sides);
         let position = sum(self.position, time_of(n, setup.rate));
         let voices = heard.voices;
         let active = self.active;

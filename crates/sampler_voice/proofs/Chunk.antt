@@ -1,4 +1,4 @@
--- Frames that stay in one phase are one run, and frames are cut in two anywhere.
+-- Frames that stay in one phase are one run, and frames are cut in ch anywhere.
 -- The idea: until its last frame a fade isn't over, so `settled` leaves the phase as it is. Assumes nothing.
 use Prim.Native.Nat.{ℕ, zero, suc, _+_, _<_, _≤_}
 use mathlib.Core.Path.{_≡_, refl}
@@ -10,6 +10,7 @@ use native.Mathlib.Numerals.{add-one}
 use lib.ListN.{length}
 use lib.Ieee.{Float}
 use borrow.Author.Tests.{lt-ltb}
+use Rattle.sampler_voice.specs.declared.Channels.{Channels}
 use Rattle.sampler_voice.specs.declared.Phase.{Phase}
 use Rattle.sampler_voice.specs.declared.Phase.the-variants.{Stopped, FadingIn, Playing, FadingOut}
 use Rattle.sampler_voice.specs.Voices.{settled, nextPhase, nextPosition, Heard, heard, sounded, frame, frames}
@@ -72,9 +73,9 @@ moved-suc (FadingIn i) k p = omega arith
 moved-suc Playing k p = omega arith
 moved-suc (FadingOut i) k p = omega arith
 
-module _ (rec : List Float) (rn : ℕ) (fade : List Float) (n : ℕ) (two : Bool) where
+module _ (rec : List Float) (rn : ℕ) (fade : List Float) (n : ℕ) (ch : Channels) where
   sounded-moved : (ph : Phase) (k p j : ℕ) (out : List Float)
-      → sounded rec rn fade n two (later k ph) (movedBy k ph p) j out ≡ sounded rec rn fade n two (later k ph) (p + k) j out
+      → sounded rec rn fade n ch (later k ph) (movedBy k ph p) j out ≡ sounded rec rn fade n ch (later k ph) (p + k) j out
   unfolding sounded later movedBy
   sounded-moved Stopped k p j out = refl
   sounded-moved (FadingIn i) k p j out = refl
@@ -82,15 +83,15 @@ module _ (rec : List Float) (rn : ℕ) (fade : List Float) (n : ℕ) (two : Bool
   sounded-moved (FadingOut i) k p j out = refl
 
   pub chunk : (ph : Phase) (p j k : ℕ) (out : List Float) → Lasts (length fade) ph k
-      → frames rec rn fade n two j k (heard p ph out)
-      ≡ heard (movedBy k ph p) (settled (length fade) (later k ph)) (run rec rn fade n two ph p j k out)
+      → frames rec rn fade n ch j k (heard p ph out)
+      ≡ heard (movedBy k ph p) (settled (length fade) (later k ph)) (run rec rn fade n ch ph p j k out)
   unfolding frames frame run
   chunk ph p j zero out h = simp (moved-zero, later-zero, begun (length fade) ph zero h)
   chunk ph p j (suc k) out h =
       simp (chunk ph p j k out (shorter (length fade) ph k h), going (length fade) ph k h, moved-suc, next-later, later-later k 1 ph, add-one, sounded-moved)
 
   -- pieces one after the other are one piece
-  pub frames-add : (j k d : ℕ) (h : Heard) → frames rec rn fade n two j (k + d) h ≡ frames rec rn fade n two (j + k) d (frames rec rn fade n two j k h)
+  pub frames-add : (j k d : ℕ) (h : Heard) → frames rec rn fade n ch j (k + d) h ≡ frames rec rn fade n ch (j + k) d (frames rec rn fade n ch j k h)
   unfolding frames
   frames-add j k zero h = rw add-zero
   frames-add j k (suc d) h = rw add-suc (simp (frames-add j k d h, add-assoc))

@@ -6,14 +6,11 @@ pub mod Step
 pub mod Run
 pub mod Chunk
 pub mod Ways
--- What later layers lean on. Apart, Mix: voices one after the other, piece by piece and frame by frame. Phases, Moves: what frames make of a voice. Untouched: what they leave.
+-- What later layers lean on. Apart, Mix: voices one after the other, piece by piece and frame by frame. Phases, Moves: what frames make of a voice.
 pub mod Apart
 pub mod Mix
 pub mod Phases
 pub mod Moves
-pub mod Untouched
--- Outputs stay finite. SmallPair: a pair. Finite: a voice and a mix. Risen: the pieces of a call. NoNan: and no entry becomes a NaN.
+-- No entry of an output becomes a NaN (NoNan): what is added is at most 16 (SmallPair).
 pub mod SmallPair
-pub mod Finite
-pub mod Risen
 pub mod NoNan

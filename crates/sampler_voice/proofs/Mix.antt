@@ -9,65 +9,66 @@ use native.Mathlib.Nat.{add-zero}
 use native.Mathlib.Numerals.{add-one}
 use lib.ListN.{length, getD}
 use lib.Ieee.{Float}
+use Rattle.sampler_voice.specs.declared.Channels.{Channels}
 use Rattle.sampler_voice.specs.declared.Voice.{Voice}
 use Rattle.sampler_voice.specs.Voices.{silent, Heard, Mixed, lent, lentAll, frame, frames, mix, perFrame}
 use Rattle.sampler_voice.proofs.Chunk.{frames-add}
 use Rattle.sampler_voice.proofs.Ways.{stopped}
 use Rattle.sampler_voice.proofs.Apart.{mix-apart, later-apart}
 
-module _ (rec : List Float) (rn : ℕ) (fade : List Float) (n : ℕ) (two : Bool) where
+module _ (rec : List Float) (rn : ℕ) (fade : List Float) (n : ℕ) (ch : Channels) where
   -- where a voice gets to doesn't depend on the output
-  pub same-voice : (j k : ℕ) (w : Voice) (out o : List Float) → frames rec rn fade n two j k (lent w out) .voice ≡ frames rec rn fade n two j k (lent w o) .voice
+  pub same-voice : (j k : ℕ) (w : Voice) (out o : List Float) → frames rec rn fade n ch j k (lent w out) .voice ≡ frames rec rn fade n ch j k (lent w o) .voice
   unfolding frames frame
   same-voice j zero w out o = refl
   same-voice j (suc k) w out o =
-      ap (λ (v : Voice). frame rec rn fade n two (j + k) (lent v o) .voice) (same-voice j k w out o)
+      ap (λ (v : Voice). frame rec rn fade n ch (j + k) (lent v o) .voice) (same-voice j k w out o)
 
   -- each voice of a mix does its own frames
   pub mix-voice : (j k : ℕ) (vs : List Voice) (out o : List Float) (i : ℕ)
-      → getD (mix rec rn fade n two j k vs out .voices) i silent ≡ frames rec rn fade n two j k (lent (getD vs i silent) o) .voice
+      → getD (mix rec rn fade n ch j k vs out .voices) i silent ≡ frames rec rn fade n ch j k (lent (getD vs i silent) o) .voice
   unfolding mix
-  mix-voice j k [] out o i = sym (ap (λ (h : Heard). h .voice) (stopped rec rn fade n two 0 j k o))
+  mix-voice j k [] out o i = sym (ap (λ (h : Heard). h .voice) (stopped rec rn fade n ch 0 j k o))
   mix-voice j k (v ∷ vs) out o zero = same-voice j k v out o
-  mix-voice j k (v ∷ vs) out o (suc i) = mix-voice j k vs (frames rec rn fade n two j k (lent v out) .out) o i
+  mix-voice j k (v ∷ vs) out o (suc i) = mix-voice j k vs (frames rec rn fade n ch j k (lent v out) .out) o i
 
-  pub mix-length : (j k : ℕ) (vs : List Voice) (out : List Float) → length (mix rec rn fade n two j k vs out .voices) ≡ length vs
+  pub mix-length : (j k : ℕ) (vs : List Voice) (out : List Float) → length (mix rec rn fade n ch j k vs out .voices) ≡ length vs
   unfolding mix
   mix-length j k [] out = refl
-  mix-length j k (v ∷ vs) out = ap suc (mix-length j k vs (frames rec rn fade n two j k (lent v out) .out))
+  mix-length j k (v ∷ vs) out = ap suc (mix-length j k vs (frames rec rn fade n ch j k (lent v out) .out))
 
-  pub mix-zero : (j : ℕ) (vs : List Voice) (out : List Float) → mix rec rn fade n two j 0 vs out ≡ lentAll vs out
+  pub mix-zero : (j : ℕ) (vs : List Voice) (out : List Float) → mix rec rn fade n ch j 0 vs out ≡ lentAll vs out
   unfolding mix frames
   mix-zero j [] out = refl
   mix-zero j (v ∷ vs) out = ap (λ (m : Mixed). lentAll (v ∷ m .voices) (m .out)) (mix-zero j vs out)
 
   -- pieces one after the other are one piece
   pub mix-add : (j k d : ℕ) (vs : List Voice) (out : List Float) → j + (k + d) ≤ n
-      → mix rec rn fade n two j (k + d) vs out
-      ≡ mix rec rn fade n two (j + k) d (mix rec rn fade n two j k vs out .voices) (mix rec rn fade n two j k vs out .out)
+      → mix rec rn fade n ch j (k + d) vs out
+      ≡ mix rec rn fade n ch (j + k) d (mix rec rn fade n ch j k vs out .voices) (mix rec rn fade n ch j k vs out .out)
   unfolding mix
   mix-add j k d [] out l = refl
   mix-add j k d (v ∷ vs) out l =
-      let h = frames rec rn fade n two j k (lent v out) in
-      let m = mix rec rn fade n two j k vs (h .out) in
-      let f : List Float → List Float = λ o. frames rec rn fade n two (j + k) d (lent (h .voice) o) .out in
-      ap (λ (x : Heard). lentAll (x .voice ∷ mix rec rn fade n two j (k + d) vs (x .out) .voices) (mix rec rn fade n two j (k + d) vs (x .out) .out)) (frames-add rec rn fade n two j k d (lent v out))
-      ∙ ap (λ (x : Mixed). lentAll (frames rec rn fade n two (j + k) d h .voice ∷ x .voices) (x .out))
+      let h = frames rec rn fade n ch j k (lent v out) in
+      let m = mix rec rn fade n ch j k vs (h .out) in
+      let f : List Float → List Float = λ o. frames rec rn fade n ch (j + k) d (lent (h .voice) o) .out in
+      ap (λ (x : Heard). lentAll (x .voice ∷ mix rec rn fade n ch j (k + d) vs (x .out) .voices) (mix rec rn fade n ch j (k + d) vs (x .out) .out)) (frames-add rec rn fade n ch j k d (lent v out))
+      ∙ ap (λ (x : Mixed). lentAll (frames rec rn fade n ch (j + k) d h .voice ∷ x .voices) (x .out))
       (mix-add j k d vs (f (h .out)) l
-      ∙ ap (λ (x : Mixed). mix rec rn fade n two (j + k) d (x .voices) (x .out)) (mix-apart rec rn fade n two j k f vs (h .out) (later-apart rec rn fade n two j k (j + k) d (h .voice) (omega arith) (omega arith))))
-      ∙ ap (λ (w : Voice). lentAll (w ∷ mix rec rn fade n two (j + k) d (m .voices) (f (m .out)) .voices) (mix rec rn fade n two (j + k) d (m .voices) (f (m .out)) .out))
+      ∙ ap (λ (x : Mixed). mix rec rn fade n ch (j + k) d (x .voices) (x .out)) (mix-apart rec rn fade n ch j k f vs (h .out) (later-apart rec rn fade n ch j k (j + k) d (h .voice) (omega arith) (omega arith))))
+      ∙ ap (λ (w : Voice). lentAll (w ∷ mix rec rn fade n ch (j + k) d (m .voices) (f (m .out)) .voices) (mix rec rn fade n ch (j + k) d (m .voices) (f (m .out)) .out))
       (same-voice (j + k) d (h .voice) (h .out) (m .out))
 
   -- each voice over the whole piece is every voice over each frame
-  pub by-frame : (j k : ℕ) (vs : List Voice) (out : List Float) → j + k ≤ n → mix rec rn fade n two j k vs out ≡ perFrame rec rn fade n two j k vs out
+  pub by-frame : (j k : ℕ) (vs : List Voice) (out : List Float) → j + k ≤ n → mix rec rn fade n ch j k vs out ≡ perFrame rec rn fade n ch j k vs out
   unfolding perFrame
   by-frame j zero vs out l = mix-zero j vs out
   by-frame j (suc k) vs out l =
-      ap (λ (x : ℕ). mix rec rn fade n two j x vs out) (sym (add-one k))
+      ap (λ (x : ℕ). mix rec rn fade n ch j x vs out) (sym (add-one k))
       ∙ mix-add j k 1 vs out (omega arith)
-      ∙ ap (λ (m : Mixed). mix rec rn fade n two (j + k) 1 (m .voices) (m .out)) (by-frame j k vs out (omega arith))
+      ∙ ap (λ (m : Mixed). mix rec rn fade n ch (j + k) 1 (m .voices) (m .out)) (by-frame j k vs out (omega arith))
 
   -- and a frame of a piece is `frame`
-  pub one-frame : (j : ℕ) (h : Heard) → frames rec rn fade n two j 1 h ≡ frame rec rn fade n two j h
+  pub one-frame : (j : ℕ) (h : Heard) → frames rec rn fade n ch j 1 h ≡ frame rec rn fade n ch j h
   unfolding frames
-  one-frame j h = ap (λ (x : ℕ). frame rec rn fade n two x h) (add-zero j)
+  one-frame j h = ap (λ (x : ℕ). frame rec rn fade n ch x h) (add-zero j)

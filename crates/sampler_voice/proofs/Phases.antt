@@ -9,6 +9,7 @@ use lib.Dec.{ltb, eqb}
 use lib.ListN.{length, getD}
 use lib.Ieee.{Float}
 use borrow.Author.Tests.{lt-ltb, ltb-true}
+use Rattle.sampler_voice.specs.declared.Channels.{Channels}
 use Rattle.sampler_voice.specs.declared.Phase.{Phase}
 use Rattle.sampler_voice.specs.declared.Phase.the-variants.{Stopped, FadingIn, Playing, FadingOut}
 use Rattle.sampler_voice.specs.declared.Voice.{Voice}
@@ -96,26 +97,26 @@ next-fade F Playing = refl
 next-fade F (FadingOut i) = settled-fade F (FadingOut (i + 1))
 
 -- ---- frames
-module _ (rec : List Float) (rn : ℕ) (fade : List Float) (n : ℕ) (two : Bool) where
-  pub frames-held : (j k : ℕ) (h : Heard) → isHeld (frames rec rn fade n two j k h .voice .phase) ≡ isHeld (h .voice .phase)
+module _ (rec : List Float) (rn : ℕ) (fade : List Float) (n : ℕ) (ch : Channels) where
+  pub frames-held : (j k : ℕ) (h : Heard) → isHeld (frames rec rn fade n ch j k h .voice .phase) ≡ isHeld (h .voice .phase)
   unfolding frames frame
   frames-held j zero h = refl
   frames-held j (suc k) h =
-      let ph = frames rec rn fade n two j k h .voice .phase in
+      let ph = frames rec rn fade n ch j k h .voice .phase in
       next-held (length fade) (settled (length fade) ph) ∙ settled-held (length fade) ph ∙ frames-held j k h
 
-  pub frames-fade : (j k : ℕ) (h : Heard) → fadeGood (length fade) (h .voice .phase) ≡ true → fadeGood (length fade) (frames rec rn fade n two j k h .voice .phase) ≡ true
+  pub frames-fade : (j k : ℕ) (h : Heard) → fadeGood (length fade) (h .voice .phase) ≡ true → fadeGood (length fade) (frames rec rn fade n ch j k h .voice .phase) ≡ true
   unfolding frames frame
   frames-fade j zero h g = g
-  frames-fade j (suc k) h g = next-fade (length fade) (settled (length fade) (frames rec rn fade n two j k h .voice .phase))
+  frames-fade j (suc k) h g = next-fade (length fade) (settled (length fade) (frames rec rn fade n ch j k h .voice .phase))
 
   -- and of any number of voices
   pub mix-held : (j k : ℕ) (vs : List Voice) (out : List Float) (i : ℕ)
-      → isHeld (getD (mix rec rn fade n two j k vs out .voices) i silent .phase) ≡ isHeld (getD vs i silent .phase)
+      → isHeld (getD (mix rec rn fade n ch j k vs out .voices) i silent .phase) ≡ isHeld (getD vs i silent .phase)
   mix-held j k vs out i =
-      ap (λ (v : Voice). isHeld (v .phase)) (mix-voice rec rn fade n two j k vs out out i) ∙ frames-held j k (lent (getD vs i silent) out)
+      ap (λ (v : Voice). isHeld (v .phase)) (mix-voice rec rn fade n ch j k vs out out i) ∙ frames-held j k (lent (getD vs i silent) out)
 
   pub mix-fade : (j k : ℕ) (vs : List Voice) (out : List Float) (i : ℕ) → fadeGood (length fade) (getD vs i silent .phase) ≡ true
-      → fadeGood (length fade) (getD (mix rec rn fade n two j k vs out .voices) i silent .phase) ≡ true
+      → fadeGood (length fade) (getD (mix rec rn fade n ch j k vs out .voices) i silent .phase) ≡ true
   mix-fade j k vs out i g =
-      ap (λ (v : Voice). fadeGood (length fade) (v .phase)) (mix-voice rec rn fade n two j k vs out out i) ∙ frames-fade j k (lent (getD vs i silent) out) g
+      ap (λ (v : Voice). fadeGood (length fade) (v .phase)) (mix-voice rec rn fade n ch j k vs out out i) ∙ frames-fade j k (lent (getD vs i silent) out) g

@@ -1,6 +1,6 @@
 -- A voice adds a pair of at most 16 in magnitude.
 -- The idea: a cleaned sample is at most 16, and a cleaned entry of the fade at most 1. Assumes nothing.
-use Prim.Native.Nat.{ℕ, _+_, _-_, _*_}
+use Prim.Native.Nat.{ℕ, _-_}
 use mathlib.Core.Bool.{Bool, true, false, cond, _&&_}
 use mathlib.Core.List.{List}
 use native.Mathlib.Omega.{arith}
@@ -9,10 +9,11 @@ use lib.Dec.{T}
 use lib.ListN.{length, getD}
 use lib.Ieee.{Float, nan, fin, binary32, neg, le, ofBits}
 use Rattle.sampler_fade.specs.Entry.{none, one, cleanedFade, fadeAt}
+use Rattle.sampler_voice.specs.declared.Channels.{Channels}
 use Rattle.sampler_voice.specs.declared.Pair.{Pair}
 use Rattle.sampler_voice.specs.declared.Phase.{Phase}
 use Rattle.sampler_voice.specs.declared.Phase.the-variants.{Stopped, FadingIn, Playing, FadingOut}
-use Rattle.sampler_voice.specs.Sound.{sixteen, cleaned, fetched, scaled}
+use Rattle.sampler_voice.specs.Sound.{sixteen, cleaned, bothMixed, entry, fetched, scaled}
 use Rattle.sampler_voice.specs.Voices.{faded}
 use Rattle.laws.proofs.Bounds.{AtMost, mul-most}
 use Rattle.laws.proofs.RangeTests.{tests-most, unit-most}
@@ -38,10 +39,13 @@ fade-most x = go (le none x) (le x one) (λ t. t) (λ t. t)
 abbrev pub Most : Pair → Type 0
 Most q = AtMost 16 (q .left) × AtMost 16 (q .right)
 
-pub fetched-most : (rec : List Float) (rn : ℕ) (two : Bool) (p : ℕ) → Most (fetched rec rn two p)
+pub fetched-most : (rec : List Float) (rn : ℕ) (ch : Channels) (p : ℕ) → Most (fetched rec rn ch p)
 unfolding fetched ofBits
-fetched-most rec rn true p = (cleaned-most (getD rec (0 * rn + p) nan), cleaned-most (getD rec (1 * rn + p) nan))
-fetched-most rec rn false p = (cleaned-most (getD rec (0 * rn + p) nan), omega arith)
+fetched-most rec rn ch p = (cleaned-most (getD rec (entry (ch .recording) rn 0 p) nan), go (bothMixed ch))
+  where
+    go : (t : Bool) → AtMost 16 (cond t (cleaned (getD rec (entry (ch .recording) rn 1 p) nan)) none)
+    go true = cleaned-most (getD rec (entry (ch .recording) rn 1 p) nan)
+    go false = omega arith
 
 scaled-most : (fade : List Float) (i : ℕ) (q : Pair) → Most q → Most (scaled (fadeAt fade i) q)
 unfolding fadeAt

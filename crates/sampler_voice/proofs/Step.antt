@@ -10,6 +10,7 @@ use lib.ListN.{length}
 use lib.Ieee.{Float}
 use borrow.Author.Tests.{lt-ltb}
 use Rattle.sampler_fade.specs.Entry.{fadeAt}
+use Rattle.sampler_voice.specs.declared.Channels.{Channels}
 use Rattle.sampler_voice.specs.declared.Pair.{Pair}
 use Rattle.sampler_voice.specs.declared.Phase.{Phase}
 use Rattle.sampler_voice.specs.declared.Phase.the-variants.{Stopped, FadingIn, Playing, FadingOut}
@@ -17,9 +18,9 @@ use Rattle.sampler_voice.specs.Sound.{fetched, scaled, added}
 use Rattle.sampler_voice.specs.Voices.{isStopped, faded, sounded}
 use Rattle.sampler_voice.specs.inner.Run.{later, fading, place, run}
 
-module _ (rec : List Float) (rn : ℕ) (fade : List Float) (n : ℕ) (two : Bool) where
+module _ (rec : List Float) (rn : ℕ) (fade : List Float) (n : ℕ) (ch : Channels) where
   pub adds : (ph : Phase) (p j : ℕ) (out : List Float) → p < rn → isStopped ph ≡ false
-      → sounded rec rn fade n two ph p j out ≡ added n two j (faded fade ph (fetched rec rn two p)) out
+      → sounded rec rn fade n ch ph p j out ≡ added n ch j (faded fade ph (fetched rec rn ch p)) out
   unfolding sounded
   adds Stopped p j out l s = absurd (true≢false s)
   adds (FadingIn i) p j out l s = simp (lt-ltb p rn l)
@@ -27,16 +28,16 @@ module _ (rec : List Float) (rn : ℕ) (fade : List Float) (n : ℕ) (two : Bool
   adds (FadingOut i) p j out l s = simp (lt-ltb p rn l)
 
   next : (ph : Phase) (p j i : ℕ) (out : List Float) → p + i < rn → isStopped (later i ph) ≡ false
-      → run rec rn fade n two ph p j (i + 1) out
-      ≡ added n two (j + i) (faded fade (later i ph) (fetched rec rn two (p + i))) (run rec rn fade n two ph p j i out)
+      → run rec rn fade n ch ph p j (i + 1) out
+      ≡ added n ch (j + i) (faded fade (later i ph) (fetched rec rn ch (p + i))) (run rec rn fade n ch ph p j i out)
   unfolding run
-  next ph p j i out l s = rw add-one (adds (later i ph) (p + i) (j + i) (run rec rn fade n two ph p j i out) l s)
+  next ph p j i out l s = rw add-one (adds (later i ph) (p + i) (j + i) (run rec rn fade n ch ph p j i out) l s)
 
   pub step : (ph : Phase) (p j i : ℕ) (out₀ out out′ : List Float) (q : Pair) → p + i < rn → isStopped (later i ph) ≡ false
-      → out ≡ run rec rn fade n two ph p j i out₀
-      → q ≡ faded fade (later i ph) (fetched rec rn two (p + i))
-      → out′ ≡ added n two (j + i) q out
-      → out′ ≡ run rec rn fade n two ph p j (i + 1) out₀
+      → out ≡ run rec rn fade n ch ph p j i out₀
+      → q ≡ faded fade (later i ph) (fetched rec rn ch (p + i))
+      → out′ ≡ added n ch (j + i) q out
+      → out′ ≡ run rec rn fade n ch ph p j (i + 1) out₀
   step ph p j i out₀ out out′ q l s a b e = cc (next ph p j i out₀ l s)
 
 -- a fade sounds, and scales by its entry of the table

@@ -6,6 +6,7 @@ use lib.Dec.{ltb, eqb}
 use lib.ListN.{length}
 use lib.Ieee.{Float}
 use Rattle.sampler_fade.specs.Entry.{fadeIn, fadeOut}
+use Rattle.sampler_voice.specs.declared.Channels.{Channels}
 use Rattle.sampler_voice.specs.declared.Pair.{Pair}
 use Rattle.sampler_voice.specs.declared.Phase.{Phase}
 use Rattle.sampler_voice.specs.declared.Phase.the-variants.{Stopped, FadingIn, Playing, FadingOut}
@@ -101,14 +102,14 @@ pub record Mixed : Type 0 where
 abbrev pub lentAll : List Voice → List Float → Mixed
 lentAll vs out = record { voices = vs; out = out }
 
--- what never changes: a recording of rn frames, the fade table, a block of n frames, and whether two channels are mixed
-module _ (rec : List Float) (rn : ℕ) (fade : List Float) (n : ℕ) (two : Bool) where
+-- what never changes: a recording of rn frames, the fade table, a block of n frames, and how many channels each side has
+module _ (rec : List Float) (rn : ℕ) (fade : List Float) (n : ℕ) (ch : Channels) where
   -- "Past the recording's end positions advance and nothing is added"
   unfoldable pub sounded : Phase → ℕ → ℕ → List Float → List Float
   sounded Stopped p j out = out
-  sounded (FadingIn i) p j out = cond (ltb p rn) (added n two j (faded fade (FadingIn i) (fetched rec rn two p)) out) out
-  sounded Playing p j out = cond (ltb p rn) (added n two j (faded fade Playing (fetched rec rn two p)) out) out
-  sounded (FadingOut i) p j out = cond (ltb p rn) (added n two j (faded fade (FadingOut i) (fetched rec rn two p)) out) out
+  sounded (FadingIn i) p j out = cond (ltb p rn) (added n ch j (faded fade (FadingIn i) (fetched rec rn ch p)) out) out
+  sounded Playing p j out = cond (ltb p rn) (added n ch j (faded fade Playing (fetched rec rn ch p)) out) out
+  sounded (FadingOut i) p j out = cond (ltb p rn) (added n ch j (faded fade (FadingOut i) (fetched rec rn ch p)) out) out
 
   -- a voice over frame j of the block. A fade of 0 frames is over before it
   unfoldable pub frame : ℕ → Heard → Heard

@@ -1,9 +1,9 @@
 // sampler_voice.rs: a voice of the sampler, and the two of a leg. A voice goes in by value and comes back.
-// Recording and output are planar, channel 0's frames and then channel 1's, of which two or one are
-// mixed. The output is n frames long; a piece of it is k frames from frame j on.
+// Recording and output are planar, channel 0's frames and then channel 1's, and each has its own number of
+// channels. The output is n frames long; a piece of it is k frames from frame j on.
 ghost use mathlib.Core.Path.{_≡_};
 ghost use Prim.Native.Nat.{_+_, _<_, _≤_, _^_};
-ghost use Rattle.sampler_voice.specs.Sound.{scaled};
+ghost use Rattle.sampler_voice.specs.Sound.{bothMixed, scaled};
 ghost use Rattle.sampler_voice.specs.inner.Room.{Room};
 ghost use Rattle.sampler_voice.specs.Voices.{silent, isStopped, startedAt, endedVoice, lent, lentAll, frames, mix};
 ghost use Rattle.sampler_voice.specs.inner.Room.{Ahead};
@@ -22,6 +22,27 @@ pub enum Phase {
 pub struct Voice {
     pub position: usize,
     pub phase: Phase,
+}
+
+// How many channels each side has.
+pub struct Channels {
+    pub recording: usize,
+    pub output: usize,
+}
+
+impl Channels {
+    // The smaller count is mixed: whether it is 2.
+    pub fn both(self) -> bool
+        ensures { λ r. ⌜ r ≡ bothMixed self ⌝ }
+    {
+        let recording = self.recording;
+        let output = self.output;
+        if recording <= output {
+            recording == 2
+        } else {
+            output == 2
+        }
+    }
 }
 
 // The two channel values of a frame.
@@ -114,13 +135,13 @@ impl Voice {
         rec: &[f32],
         rn: usize,
         fade: &[f32],
-        two: bool,
+        channels: Channels,
     ) -> Voice
-        requires { ⌜ Room two n (now out) ⌝ }
-        requires { ⌜ Room two rn (now rec) ⌝ }
+        requires { ⌜ Room (channels .output) n (now out) ⌝ }
+        requires { ⌜ Room (channels .recording) rn (now rec) ⌝ }
         requires { ⌜ j + k ≤ n ⌝ }
         requires { ⌜ self .position + k < 2 ^ 62 ⌝ }
-        ensures { λ r. ⌜ lent r (now (out .exit)) ≡ frames (now (rec .entry)) rn (now (fade .entry)) n two j k (lent self (now (out .entry))) ⌝ }
+        ensures { λ r. ⌜ lent r (now (out .exit)) ≡ frames (now (rec .entry)) rn (now (fade .entry)) n channels j k (lent self (now (out .entry))) ⌝ }
     {
         if k == 0 {
             return self;
@@ -129,15 +150,15 @@ impl Voice {
         let phase = self.phase;
         match phase {
             Phase::Stopped => self,
-            Phase::FadingIn(i) => piece::render_in(out, n, j, k, rec, rn, p, fade, i, two),
+            Phase::FadingIn(i) => piece::render_in(out, n, j, k, rec, rn, p, fade, i, channels),
             Phase::Playing => {
-                piece::render_playing(out, n, j, rec, rn, p, fade, two, k);
+                piece::render_playing(out, n, j, rec, rn, p, fade, channels, k);
                 Voice {
                     position: p + k,
                     phase: Phase::Playing,
                 }
             }
-            Phase::FadingOut(i) => piece::render_out(out, n, j, k, rec, rn, p, fade, i, two),
+            Phase::FadingOut(i) => piece::render_out(out, n, j, k, rec, rn, p, fade, i, channels),
         }
     }
 }
@@ -159,21 +180,21 @@ impl Voices {
         rec: &[f32],
         rn: usize,
         fade: &[f32],
-        two: bool,
+        channels: Channels,
     ) -> Voices
-        requires { ⌜ Room two n (now out) ⌝ }
-        requires { ⌜ Room two rn (now rec) ⌝ }
+        requires { ⌜ Room (channels .output) n (now out) ⌝ }
+        requires { ⌜ Room (channels .recording) rn (now rec) ⌝ }
         requires { ⌜ j + k ≤ n ⌝ }
         requires { ⌜ Ahead k (self .voices) ⌝ }
-        ensures { λ r. ⌜ lentAll (r .voices) (now (out .exit)) ≡ mix (now (rec .entry)) rn (now (fade .entry)) n two j k (self .voices) (now (out .entry)) ⌝ }
+        ensures { λ r. ⌜ lentAll (r .voices) (now (out .exit)) ≡ mix (now (rec .entry)) rn (now (fade .entry)) n channels j k (self .voices) (now (out .entry)) ⌝ }
     {
         let v = self.voices[0];
         let w = self.voices[1];
         if v.is_stopped() & w.is_stopped() {
             return self;
         }
-        let a = v.render(out, n, j, k, rec, rn, fade, two);
-        let b = w.render(out, n, j, k, rec, rn, fade, two);
+        let a = v.render(out, n, j, k, rec, rn, fade, channels);
+        let b = w.render(out, n, j, k, rec, rn, fade, channels);
         let voices = [a, b];
         Voices { voices }
     }

@@ -10,6 +10,7 @@ ghost use Rattle.sampler_voice.specs.inner.Run.{fading, run, Reach};
 use super::fade::fade_value;
 use super::sound::fetch;
 use super::sound::put;
+use crate::Channels;
 use crate::Phase;
 use crate::Voice;
 
@@ -22,18 +23,18 @@ fn play(
     rn: usize,
     p: usize,
     fade: &[f32],
-    two: bool,
+    channels: Channels,
     k: usize,
 )
-    requires { ⌜ Room two n (now out) ⌝ }
-    requires { ⌜ Room two rn (now rec) ⌝ }
+    requires { ⌜ Room (channels .output) n (now out) ⌝ }
+    requires { ⌜ Room (channels .recording) rn (now rec) ⌝ }
     requires { ⌜ j + k ≤ n ⌝ }
     requires { ⌜ p + k ≤ rn ⌝ }
-    ensures { λ _. ⌜ now (out .exit) ≡ run (now (rec .entry)) rn (now (fade .entry)) n two Phase.Playing p j k (now (out .entry)) ⌝ }
+    ensures { λ _. ⌜ now (out .exit) ≡ run (now (rec .entry)) rn (now (fade .entry)) n channels Phase.Playing p j k (now (out .entry)) ⌝ }
 {
     let mut i = 0;
     while i < k {
-        put(out, n, two, j + i, fetch(rec, rn, two, p + i));
+        put(out, n, channels, j + i, fetch(rec, rn, channels, p + i));
         i += 1;
     }
 }
@@ -49,21 +50,27 @@ fn fade_along(
     fade: &[f32],
     rising: bool,
     f: usize,
-    two: bool,
+    channels: Channels,
     k: usize,
 )
-    requires { ⌜ Room two n (now out) ⌝ }
-    requires { ⌜ Room two rn (now rec) ⌝ }
+    requires { ⌜ Room (channels .output) n (now out) ⌝ }
+    requires { ⌜ Room (channels .recording) rn (now rec) ⌝ }
     requires { ⌜ j + k ≤ n ⌝ }
     requires { ⌜ p + k ≤ rn ⌝ }
     requires { ⌜ f + k ≤ length (now fade) ⌝ }
     requires { ⌜ (rising ≡ false → 0 < f) ⌝ }
-    ensures { λ _. ⌜ now (out .exit) ≡ run (now (rec .entry)) rn (now (fade .entry)) n two (fading rising f) p j k (now (out .entry)) ⌝ }
+    ensures { λ _. ⌜ now (out .exit) ≡ run (now (rec .entry)) rn (now (fade .entry)) n channels (fading rising f) p j k (now (out .entry)) ⌝ }
 {
     let mut i = 0;
     while i < k {
         let g = fade_value(fade, rising, f + i);
-        put(out, n, two, j + i, fetch(rec, rn, two, p + i).scaled(g));
+        put(
+            out,
+            n,
+            channels,
+            j + i,
+            fetch(rec, rn, channels, p + i).scaled(g),
+        );
         i += 1;
     }
 }
@@ -86,17 +93,17 @@ pub fn render_playing(
     rn: usize,
     p: usize,
     fade: &[f32],
-    two: bool,
+    channels: Channels,
     k: usize,
 )
-    requires { ⌜ Room two n (now out) ⌝ }
-    requires { ⌜ Room two rn (now rec) ⌝ }
+    requires { ⌜ Room (channels .output) n (now out) ⌝ }
+    requires { ⌜ Room (channels .recording) rn (now rec) ⌝ }
     requires { ⌜ j + k ≤ n ⌝ }
-    ensures { λ _. ⌜ now (out .exit) ≡ run (now (rec .entry)) rn (now (fade .entry)) n two Phase.Playing p j k (now (out .entry)) ⌝ }
+    ensures { λ _. ⌜ now (out .exit) ≡ run (now (rec .entry)) rn (now (fade .entry)) n channels Phase.Playing p j k (now (out .entry)) ⌝ }
 {
     if p < rn {
         let m = reach(k, p, rn);
-        play(out, n, j, rec, rn, p, fade, two, m);
+        play(out, n, j, rec, rn, p, fade, channels, m);
     }
 }
 
@@ -111,27 +118,39 @@ fn fade_from(
     fade: &[f32],
     rising: bool,
     f: usize,
-    two: bool,
+    channels: Channels,
     k: usize,
 )
-    requires { ⌜ Room two n (now out) ⌝ }
-    requires { ⌜ Room two rn (now rec) ⌝ }
+    requires { ⌜ Room (channels .output) n (now out) ⌝ }
+    requires { ⌜ Room (channels .recording) rn (now rec) ⌝ }
     requires { ⌜ j + k ≤ n ⌝ }
     requires { ⌜ p + k ≤ rn ⌝ }
     requires { ⌜ f + k ≤ length (now fade) ⌝ }
-    ensures { λ _. ⌜ now (out .exit) ≡ run (now (rec .entry)) rn (now (fade .entry)) n two (fading rising f) p j k (now (out .entry)) ⌝ }
+    ensures { λ _. ⌜ now (out .exit) ≡ run (now (rec .entry)) rn (now (fade .entry)) n channels (fading rising f) p j k (now (out .entry)) ⌝ }
 {
     if rising {
-        fade_along(out, n, j, rec, rn, p, fade, true, f, two, k);
+        fade_along(out, n, j, rec, rn, p, fade, true, f, channels, k);
         return;
     }
     if 0 < f {
-        fade_along(out, n, j, rec, rn, p, fade, false, f, two, k);
+        fade_along(out, n, j, rec, rn, p, fade, false, f, channels, k);
         return;
     }
     if 0 < k {
-        put(out, n, two, j, fetch(rec, rn, two, p).scaled(1.0));
-        fade_along(out, n, j + 1, rec, rn, p + 1, fade, false, 1, two, k - 1);
+        put(out, n, channels, j, fetch(rec, rn, channels, p).scaled(1.0));
+        fade_along(
+            out,
+            n,
+            j + 1,
+            rec,
+            rn,
+            p + 1,
+            fade,
+            false,
+            1,
+            channels,
+            k - 1,
+        );
     }
 }
 
@@ -146,18 +165,18 @@ fn render_fade(
     fade: &[f32],
     rising: bool,
     f: usize,
-    two: bool,
+    channels: Channels,
     k: usize,
 )
-    requires { ⌜ Room two n (now out) ⌝ }
-    requires { ⌜ Room two rn (now rec) ⌝ }
+    requires { ⌜ Room (channels .output) n (now out) ⌝ }
+    requires { ⌜ Room (channels .recording) rn (now rec) ⌝ }
     requires { ⌜ j + k ≤ n ⌝ }
     requires { ⌜ f + k ≤ length (now fade) ⌝ }
-    ensures { λ _. ⌜ now (out .exit) ≡ run (now (rec .entry)) rn (now (fade .entry)) n two (fading rising f) p j k (now (out .entry)) ⌝ }
+    ensures { λ _. ⌜ now (out .exit) ≡ run (now (rec .entry)) rn (now (fade .entry)) n channels (fading rising f) p j k (now (out .entry)) ⌝ }
 {
     if p < rn {
         let m = reach(k, p, rn);
-        fade_from(out, n, j, rec, rn, p, fade, rising, f, two, m);
+        fade_from(out, n, j, rec, rn, p, fade, rising, f, channels, m);
     }
 }
 
@@ -172,30 +191,40 @@ pub fn render_in(
     p: usize,
     fade: &[f32],
     i: usize,
-    two: bool,
+    channels: Channels,
 ) -> Voice
-    requires { ⌜ Room two n (now out) ⌝ }
-    requires { ⌜ Room two rn (now rec) ⌝ }
+    requires { ⌜ Room (channels .output) n (now out) ⌝ }
+    requires { ⌜ Room (channels .recording) rn (now rec) ⌝ }
     requires { ⌜ j + k ≤ n ⌝ }
     requires { ⌜ 0 < k ⌝ }
     requires { ⌜ p + k < 2 ^ 62 ⌝ }
-    ensures { λ r. ⌜ lent r (now (out .exit)) ≡ frames (now (rec .entry)) rn (now (fade .entry)) n two j k (heard p (Phase.FadingIn i) (now (out .entry))) ⌝ }
+    ensures { λ r. ⌜ lent r (now (out .exit)) ≡ frames (now (rec .entry)) rn (now (fade .entry)) n channels j k (heard p (Phase.FadingIn i) (now (out .entry))) ⌝ }
 {
     let position = p + k;
     let all = fade.len();
     if all <= i {
-        render_playing(out, n, j, rec, rn, p, fade, two, k);
+        render_playing(out, n, j, rec, rn, p, fade, channels, k);
         let phase = Phase::Playing;
         return Voice { position, phase };
     }
     let left = all - i;
     if k < left {
-        render_fade(out, n, j, rec, rn, p, fade, true, i, two, k);
+        render_fade(out, n, j, rec, rn, p, fade, true, i, channels, k);
         let phase = Phase::FadingIn(i + k);
         return Voice { position, phase };
     }
-    render_fade(out, n, j, rec, rn, p, fade, true, i, two, left);
-    render_playing(out, n, j + left, rec, rn, p + left, fade, two, k - left);
+    render_fade(out, n, j, rec, rn, p, fade, true, i, channels, left);
+    render_playing(
+        out,
+        n,
+        j + left,
+        rec,
+        rn,
+        p + left,
+        fade,
+        channels,
+        k - left,
+    );
     let phase = Phase::Playing;
     Voice { position, phase }
 }
@@ -211,14 +240,14 @@ pub fn render_out(
     p: usize,
     fade: &[f32],
     i: usize,
-    two: bool,
+    channels: Channels,
 ) -> Voice
-    requires { ⌜ Room two n (now out) ⌝ }
-    requires { ⌜ Room two rn (now rec) ⌝ }
+    requires { ⌜ Room (channels .output) n (now out) ⌝ }
+    requires { ⌜ Room (channels .recording) rn (now rec) ⌝ }
     requires { ⌜ j + k ≤ n ⌝ }
     requires { ⌜ 0 < k ⌝ }
     requires { ⌜ p + k < 2 ^ 62 ⌝ }
-    ensures { λ r. ⌜ lent r (now (out .exit)) ≡ frames (now (rec .entry)) rn (now (fade .entry)) n two j k (heard p (Phase.FadingOut i) (now (out .entry))) ⌝ }
+    ensures { λ r. ⌜ lent r (now (out .exit)) ≡ frames (now (rec .entry)) rn (now (fade .entry)) n channels j k (heard p (Phase.FadingOut i) (now (out .entry))) ⌝ }
 {
     let all = fade.len();
     if all <= i {
@@ -227,12 +256,12 @@ pub fn render_out(
     }
     let left = all - i;
     if k < left {
-        render_fade(out, n, j, rec, rn, p, fade, false, i, two, k);
+        render_fade(out, n, j, rec, rn, p, fade, false, i, channels, k);
         let position = p + k;
         let phase = Phase::FadingOut(i + k);
         return Voice { position, phase };
     }
-    render_fade(out, n, j, rec, rn, p, fade, false, i, two, left);
+    render_fade(out, n, j, rec, rn, p, fade, false, i, channels, left);
     let position = p + left;
     let phase = Phase::Stopped;
     Voice { position, phase }

@@ -5,6 +5,7 @@ ghost use lib.ListN.{length, getD};
 ghost use lib.Ieee.{nan};
 ghost use Rattle.sampler_voice.specs.Sound.{cleaned, fetched, addAt, added};
 ghost use Rattle.sampler_voice.specs.inner.Room.{Room};
+use crate::Channels;
 use crate::Pair;
 
 fn clean(x: f32) -> f32
@@ -25,12 +26,12 @@ fn sample(rec: &[f32], i: usize) -> f32
     clean(rec[i])
 }
 
-pub fn fetch(rec: &[f32], rn: usize, two: bool, p: usize) -> Pair
-    requires { ⌜ Room two rn (now rec) ⌝ }
+pub fn fetch(rec: &[f32], rn: usize, channels: Channels, p: usize) -> Pair
+    requires { ⌜ Room (channels .recording) rn (now rec) ⌝ }
     requires { ⌜ p < rn ⌝ }
-    ensures { λ r. ⌜ r ≡ fetched (now (rec .entry)) rn two p ⌝ }
+    ensures { λ r. ⌜ r ≡ fetched (now (rec .entry)) rn channels p ⌝ }
 {
-    if two {
+    if channels.both() {
         Pair {
             left: sample(rec, p),
             right: sample(rec, rn + p),
@@ -50,13 +51,13 @@ fn add_at(out: &mut [f32], i: usize, x: f32)
     out[i] = out[i] + x;
 }
 
-pub fn put(out: &mut [f32], n: usize, two: bool, j: usize, p: Pair)
-    requires { ⌜ Room two n (now out) ⌝ }
+pub fn put(out: &mut [f32], n: usize, channels: Channels, j: usize, p: Pair)
+    requires { ⌜ Room (channels .output) n (now out) ⌝ }
     requires { ⌜ j < n ⌝ }
-    ensures { λ _. ⌜ now (out .exit) ≡ added n two j p (now (out .entry)) ⌝ }
+    ensures { λ _. ⌜ now (out .exit) ≡ added n channels j p (now (out .entry)) ⌝ }
 {
     add_at(out, j, p.left);
-    if two {
+    if channels.both() {
         add_at(out, n + j, p.right);
     }
 }

@@ -4,7 +4,8 @@ ghost use mathlib.Core.List.{[], _∷_};
 ghost use Prim.Native.Nat.{_+_, _<_, _≤_, _^_};
 ghost use Rattle.sampler_voice.specs.inner.Room.{Room};
 ghost use Rattle.sampler_voice.specs.Voices.{lent, frames, mix};
-ghost use Rattle.voice_bench.specs.Numbered.{phaseOf, voiceOf};
+ghost use Rattle.voice_bench.specs.Numbered.{sidesOf, phaseOf, voiceOf};
+use sampler_voice::Channels;
 use sampler_voice::Phase;
 use sampler_voice::Voice;
 use sampler_voice::Voices;
@@ -44,17 +45,19 @@ pub extern "C" fn voice_render(
     rec: &[f32],
     rn: usize,
     fade: &[f32],
-    two: bool,
+    recording: usize,
+    output: usize,
 ) -> usize
-    requires { ⌜ Room two n (now out) ⌝ }
-    requires { ⌜ Room two rn (now rec) ⌝ }
+    requires { ⌜ Room output n (now out) ⌝ }
+    requires { ⌜ Room recording rn (now rec) ⌝ }
     requires { ⌜ j + k ≤ n ⌝ }
     requires { ⌜ p + k < 2 ^ 62 ⌝ }
-    ensures { λ r. ⌜ r ≡ frames (now (rec .entry)) rn (now (fade .entry)) n two j k (lent (voiceOf kind i p) (now (out .entry))) .voice .position ⌝ }
-    ensures { λ _. ⌜ now (out .exit) ≡ frames (now (rec .entry)) rn (now (fade .entry)) n two j k (lent (voiceOf kind i p) (now (out .entry))) .out ⌝ }
+    ensures { λ r. ⌜ r ≡ frames (now (rec .entry)) rn (now (fade .entry)) n (sidesOf recording output) j k (lent (voiceOf kind i p) (now (out .entry))) .voice .position ⌝ }
+    ensures { λ _. ⌜ now (out .exit) ≡ frames (now (rec .entry)) rn (now (fade .entry)) n (sidesOf recording output) j k (lent (voiceOf kind i p) (now (out .entry))) .out ⌝ }
 {
     let v = voice_of(kind, i, p);
-    let w = v.render(out, n, j, k, rec, rn, fade, two);
+    let channels = Channels { recording, output };
+    let w = v.render(out, n, j, k, rec, rn, fade, channels);
     w.position
 }
 
@@ -72,18 +75,20 @@ pub extern "C" fn voices_render(
     rec: &[f32],
     rn: usize,
     fade: &[f32],
-    two: bool,
+    recording: usize,
+    output: usize,
 )
-    requires { ⌜ Room two n (now out) ⌝ }
-    requires { ⌜ Room two rn (now rec) ⌝ }
+    requires { ⌜ Room output n (now out) ⌝ }
+    requires { ⌜ Room recording rn (now rec) ⌝ }
     requires { ⌜ j + k ≤ n ⌝ }
     requires { ⌜ p + k < 2 ^ 62 ⌝ }
     requires { ⌜ q + k < 2 ^ 62 ⌝ }
-    ensures { λ _. ⌜ now (out .exit) ≡ mix (now (rec .entry)) rn (now (fade .entry)) n two j k (voiceOf 3 i p ∷ voiceOf 1 f q ∷ []) (now (out .entry)) .out ⌝ }
+    ensures { λ _. ⌜ now (out .exit) ≡ mix (now (rec .entry)) rn (now (fade .entry)) n (sidesOf recording output) j k (voiceOf 3 i p ∷ voiceOf 1 f q ∷ []) (now (out .entry)) .out ⌝ }
 {
     let a = voice_of(3, i, p);
     let b = voice_of(1, f, q);
     let voices = [a, b];
     let both = Voices { voices };
-    both.render(out, n, j, k, rec, rn, fade, two);
+    let channels = Channels { recording, output };
+    both.render(out, n, j, k, rec, rn, fade, channels);
 }

@@ -1,5 +1,7 @@
 // A piece of the list: its buffers, its voice and what became of them.
+ghost use Prim.Native.Nat.{_<_, _≤_};
 use crate::row::Row;
+use sampler_voice::Channels;
 use sampler_voice::Phase;
 use sampler_voice::Voice;
 
@@ -94,7 +96,8 @@ pub struct Asked {
     pub j: usize,
     pub k: usize,
     pub all: usize,
-    pub two: bool,
+    pub recording: usize,
+    pub output: usize,
 }
 
 pub fn asked_by(r: Row) -> Asked {
@@ -109,8 +112,17 @@ pub fn asked_by(r: Row) -> Asked {
         j: wide(words[5]),
         k: wide(words[6]),
         all: wide(words[7]),
-        two: r.at == 0x22,
+        recording: r.at / 16,
+        output: r.at % 16,
     }
+}
+
+// Two channels, or else one.
+fn two_or_one(told: usize) -> usize
+    ensures { λ r. ⌜ 0 < r ⌝ }
+    ensures { λ r. ⌜ r ≤ 2 ⌝ }
+{
+    if told == 2 { 2 } else { 1 }
 }
 
 // The piece; one that the buffers have no room for is refused.
@@ -136,6 +148,10 @@ pub fn render(out: &mut [f32], rec: &[f32], fade: &[f32], a: Asked) -> Rendered 
     if 0x1_0000_0000 <= v.position {
         return refused();
     }
-    let voice = v.render(out, n, a.j, a.k, rec, a.rn, &fade[..all], a.two);
+    let channels = Channels {
+        recording: two_or_one(a.recording),
+        output: two_or_one(a.output),
+    };
+    let voice = v.render(out, n, a.j, a.k, rec, a.rn, &fade[..all], channels);
     Rendered { taken: true, voice }
 }

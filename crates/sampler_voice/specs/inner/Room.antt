@@ -1,16 +1,14 @@
 -- What a leaf asks of its caller: room in a buffer, and room ahead of a voice. Definitions only.
 use Prim.Native.Nat.{ℕ, _+_, _*_, _^_, _<_, _≤_}
-use mathlib.Core.Bool.{Bool}
 use mathlib.Core.List.{List}
 use lib.ListN.{length, getD}
 use lib.Ieee.{Float}
 use Rattle.sampler_voice.specs.declared.Voice.{Voice}
-use Rattle.sampler_voice.specs.Sound.{channelsMixed}
 use Rattle.sampler_voice.specs.Voices.{silent}
 
--- as many channels of n frames as are mixed stand in xs
-abbrev pub Room : Bool → ℕ → List Float → Type 0
-Room two n xs = channelsMixed two * n ≤ length xs
+-- c channels of n frames, one or more, stand in xs
+abbrev pub Room : ℕ → ℕ → List Float → Type 0
+Room c n xs = (0 < c) × (c * n ≤ length xs)
 
 -- k frames lie ahead of every voice: no position comes near the end of 64 bits
 abbrev pub Ahead : ℕ → List Voice → Type 0

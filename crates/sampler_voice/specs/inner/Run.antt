@@ -3,6 +3,7 @@ use Prim.Native.Nat.{ℕ, zero, suc, _+_, _-_, _<_, _≤_}
 use mathlib.Core.Bool.{Bool, true, false}
 use mathlib.Core.List.{List}
 use lib.Ieee.{Float}
+use Rattle.sampler_voice.specs.declared.Channels.{Channels}
 use Rattle.sampler_voice.specs.declared.Phase.{Phase}
 use Rattle.sampler_voice.specs.declared.Phase.the-variants.{Stopped, FadingIn, Playing, FadingOut}
 use Rattle.sampler_voice.specs.Voices.{sounded}
@@ -25,10 +26,10 @@ place true F i = i
 place false F i = F - i
 
 -- the output after k frames from j on of a voice that stays in one phase
-module _ (rec : List Float) (rn : ℕ) (fade : List Float) (n : ℕ) (two : Bool) where
+module _ (rec : List Float) (rn : ℕ) (fade : List Float) (n : ℕ) (ch : Channels) where
   unfoldable pub run : Phase → ℕ → ℕ → ℕ → List Float → List Float
   run ph p j zero out = out
-  run ph p j (suc k) out = sounded rec rn fade n two (later k ph) (p + k) (j + k) (run ph p j k out)
+  run ph p j (suc k) out = sounded rec rn fade n ch (later k ph) (p + k) (j + k) (run ph p j k out)
 
 -- of k frames from p on, r are within a recording of rn frames
 pub record Reach (k p rn r : ℕ) : Type 0 where

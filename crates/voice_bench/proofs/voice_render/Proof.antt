@@ -5,6 +5,7 @@ use native.Mathlib.Omega.{arith}
 use denote.Ref.{now}
 use Rattle.sampler_voice.specs.declared.Voice.{Voice}
 use Rattle.sampler_voice.specs.Voices.{Heard, lent, frames}
+use Rattle.voice_bench.specs.Numbered.{sidesOf}
 use borrow.Author.Needs.{needs}
 use Rattle.voice_bench.proofs.voice_render.Statement.{statement}
 use Rattle.voice_bench.proofs.voice_render.Tie as tie
@@ -24,7 +25,7 @@ same-length c = search needs
 returns : tie.Need-returns
 returns c =
     let a = c .before .before .before .before .before .before .before .before .args in
-    let e = c .before .before .render .ensures ∙ ap (λ (v : Voice). frames (now (a .rec)) (a .rn) (now (a .fade)) (a .n) (a .two) (a .j) (a .k) (lent v (now (a .out)))) (c .before .before .before .before .voice-of .ensures) in
+    let e = c .before .before .render .ensures ∙ ap (λ (v : Voice). frames (now (a .rec)) (a .rn) (now (a .fade)) (a .n) (sidesOf (a .recording) (a .output)) (a .j) (a .k) (lent v (now (a .out)))) (c .before .before .before .before .voice-of .ensures) in
     (ap (λ (h : Heard). h .voice .position) e, ap (λ (h : Heard). h .out) e)
 
 pub voice-render-spec : {M : Type 1} → statement M

@@ -9,7 +9,7 @@ use lib.ListN.{getD}
 use Rattle.sampler_voice.specs.declared.Voice.{Voice}
 use Rattle.sampler_voice.specs.Voices.{Mixed, mix, silent}
 use Rattle.sampler_voice.specs.inner.Room.{Ahead}
-use Rattle.voice_bench.specs.Numbered.{voiceOf}
+use Rattle.voice_bench.specs.Numbered.{sidesOf, voiceOf}
 use borrow.Author.Needs.{needs}
 use Rattle.voice_bench.proofs.voices_render.Statement.{statement}
 use Rattle.voice_bench.proofs.voices_render.Tie as tie
@@ -45,8 +45,8 @@ returns c =
     let one = c .before .before .before .before .before .voice-of in
     let other = c .before .before .before .before .voice-of2 in
     ap (λ (m : Mixed). m .out) (c .before .before .render .ensures)
-    ∙ ap (λ (v : Voice). mix (now (a .rec)) (a .rn) (now (a .fade)) (a .n) (a .two) (a .j) (a .k) (v ∷ other .result ∷ []) (now (a .out)) .out) (one .ensures)
-    ∙ ap (λ (w : Voice). mix (now (a .rec)) (a .rn) (now (a .fade)) (a .n) (a .two) (a .j) (a .k) (voiceOf 3 (a .i) (a .p) ∷ w ∷ []) (now (a .out)) .out) (other .ensures)
+    ∙ ap (λ (v : Voice). mix (now (a .rec)) (a .rn) (now (a .fade)) (a .n) (sidesOf (a .recording) (a .output)) (a .j) (a .k) (v ∷ other .result ∷ []) (now (a .out)) .out) (one .ensures)
+    ∙ ap (λ (w : Voice). mix (now (a .rec)) (a .rn) (now (a .fade)) (a .n) (sidesOf (a .recording) (a .output)) (a .j) (a .k) (voiceOf 3 (a .i) (a .p) ∷ w ∷ []) (now (a .out)) .out) (other .ensures)
 
 pub voices-render-spec : {M : Type 1} → statement M
 voices-render-spec =

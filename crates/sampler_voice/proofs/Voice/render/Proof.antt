@@ -40,7 +40,7 @@ render-out-requires c κs = search needs
 returns-2 : tie.Need-returns-2
 returns-2 c =
     let a = c .before .before .before .before .before .before .args in
-    stays (now (a .rec)) (a .rn) (now (a .fade)) (a .n) (a .two) (a .self) (a .j) (a .k) (now (a .out)) (c .enum-told .given .1)
+    stays (now (a .rec)) (a .rn) (now (a .fade)) (a .n) (a .channels) (a .self) (a .j) (a .k) (now (a .out)) (c .enum-told .given .1)
 
 same-length : tie.Need-same-length
 same-length c = search needs
@@ -49,7 +49,7 @@ returns-3 : tie.Need-returns-3
 returns-3 c =
     let a = c .before .before .before .before .before .before .before .before .before .before .before .args in
     c .before .before .render-in .ensures
-    ∙ sym (known (now (a .rec)) (a .rn) (now (a .fade)) (a .n) (a .two) (a .self) (FadingIn _) (a .j) (a .k) (now (a .out)) (c .before .before .before .before .before .phase .given .1))
+    ∙ sym (known (now (a .rec)) (a .rn) (now (a .fade)) (a .n) (a .channels) (a .self) (FadingIn _) (a .j) (a .k) (now (a .out)) (c .before .before .before .before .before .phase .given .1))
 
 same-length-2 : tie.Need-same-length-2
 same-length-2 c = search needs
@@ -58,8 +58,8 @@ returns-4 : tie.Need-returns-4
 returns-4 c =
     let a = c .before .before .before .before .before .before .before .before .before .before .args in
     rw (c .before .before .render-playing .ensures)
-    (sym (known (now (a .rec)) (a .rn) (now (a .fade)) (a .n) (a .two) (a .self) Playing (a .j) (a .k) (now (a .out)) (c .before .before .before .before .enum-told2 .given .1)
-    ∙ playing (now (a .rec)) (a .rn) (now (a .fade)) (a .n) (a .two) (a .self .position) (a .j) (a .k) (now (a .out))))
+    (sym (known (now (a .rec)) (a .rn) (now (a .fade)) (a .n) (a .channels) (a .self) Playing (a .j) (a .k) (now (a .out)) (c .before .before .before .before .enum-told2 .given .1)
+    ∙ playing (now (a .rec)) (a .rn) (now (a .fade)) (a .n) (a .channels) (a .self .position) (a .j) (a .k) (now (a .out))))
 
 same-length-3 : tie.Need-same-length-3
 same-length-3 c = search needs
@@ -68,7 +68,7 @@ returns-5 : tie.Need-returns-5
 returns-5 c =
     let a = c .before .before .before .before .before .before .before .before .before .before .before .args in
     c .before .before .render-out .ensures
-    ∙ sym (known (now (a .rec)) (a .rn) (now (a .fade)) (a .n) (a .two) (a .self) (FadingOut _) (a .j) (a .k) (now (a .out)) (c .before .before .before .before .before .phase2 .given .1))
+    ∙ sym (known (now (a .rec)) (a .rn) (now (a .fade)) (a .n) (a .channels) (a .self) (FadingOut _) (a .j) (a .k) (now (a .out)) (c .before .before .before .before .before .phase2 .given .1))
 
 pub render-spec : {M : Type 1} → statement M
 render-spec =

@@ -35,7 +35,7 @@ render-requires-2 : tie.Need-render-requires-2
 render-requires-2 c κs =
     let s = c .before .before .before .before .before .before .before .before .before .before .before .before .before in
     let one = c .before .before .before .render in (
-      Room.same (s .args .two) (s .args .n) (now (s .args .out)) (one .last .1 .0) (one .kept .1 .0) (s .pre .0),
+      Room.same (s .args .channels .output) (s .args .n) (now (s .args .out)) (one .last .1 .0) (one .kept .1 .0) (s .pre .0),
       (s .pre .1 .0, (s .pre .1 .1 .0, s .pre .1 .1 .1 1)),
     )
 
@@ -57,8 +57,8 @@ returns c =
     let are-two : length vs ≡ 2 = sym (length-map vs _) ∙ s .good .0 .1 .1 .0 .1 .0 .1 in
     let t = and-eq-true-iff (c .before .before .is-stopped .result) (c .before .is-stopped2 .result) .0 (c .if1 .taken) in
     ap (λ (us : List Voice). lentAll us (now (a .out))) (pair vs silent are-two)
-    ∙ both-stay (now (a .rec)) (a .rn) (now (a .fade)) (a .n) (a .two) (getD vs 0 silent) (getD vs 1 silent) (a .j) (a .k) (now (a .out)) (sym (c .before .before .is-stopped .ensures) ∙ t .0) (sym (c .before .is-stopped2 .ensures) ∙ t .1)
-    ∙ ap (λ (us : List Voice). mix (now (a .rec)) (a .rn) (now (a .fade)) (a .n) (a .two) (a .j) (a .k) us (now (a .out))) (sym (pair vs silent are-two))
+    ∙ both-stay (now (a .rec)) (a .rn) (now (a .fade)) (a .n) (a .channels) (getD vs 0 silent) (getD vs 1 silent) (a .j) (a .k) (now (a .out)) (sym (c .before .before .is-stopped .ensures) ∙ t .0) (sym (c .before .is-stopped2 .ensures) ∙ t .1)
+    ∙ ap (λ (us : List Voice). mix (now (a .rec)) (a .rn) (now (a .fade)) (a .n) (a .channels) (a .j) (a .k) us (now (a .out))) (sym (pair vs silent are-two))
 
 returns-2 : tie.Need-returns-2
 unfolding mix
@@ -70,10 +70,10 @@ returns-2 c =
     let vs = a .t1 .voices in
     let w = getD vs 1 silent in
     let are-two : length vs ≡ 2 = sym (length-map vs _) ∙ s .good .0 .1 .1 .0 .1 .0 .1 in
-    let e : lent (one .result) (one .last .1 .0) ≡ frames (now (a .rec)) (a .rn) (now (a .fade)) (a .n) (a .two) (a .j) (a .k) (lent (getD vs 0 silent) (now (a .out))) = one .ensures in
+    let e : lent (one .result) (one .last .1 .0) ≡ frames (now (a .rec)) (a .rn) (now (a .fade)) (a .n) (a .channels) (a .j) (a .k) (lent (getD vs 0 silent) (now (a .out))) = one .ensures in
     ap (λ (h : Heard). lentAll (one .result ∷ h .voice ∷ []) (h .out)) (other .ensures)
-    ∙ ap (λ (f : Heard). lentAll (f .voice ∷ mix (now (a .rec)) (a .rn) (now (a .fade)) (a .n) (a .two) (a .j) (a .k) (w ∷ []) (f .out) .voices) (mix (now (a .rec)) (a .rn) (now (a .fade)) (a .n) (a .two) (a .j) (a .k) (w ∷ []) (f .out) .out)) e
-    ∙ ap (λ (us : List Voice). mix (now (a .rec)) (a .rn) (now (a .fade)) (a .n) (a .two) (a .j) (a .k) us (now (a .out))) (sym (pair vs silent are-two))
+    ∙ ap (λ (f : Heard). lentAll (f .voice ∷ mix (now (a .rec)) (a .rn) (now (a .fade)) (a .n) (a .channels) (a .j) (a .k) (w ∷ []) (f .out) .voices) (mix (now (a .rec)) (a .rn) (now (a .fade)) (a .n) (a .channels) (a .j) (a .k) (w ∷ []) (f .out) .out)) e
+    ∙ ap (λ (us : List Voice). mix (now (a .rec)) (a .rn) (now (a .fade)) (a .n) (a .channels) (a .j) (a .k) us (now (a .out))) (sym (pair vs silent are-two))
 
 pub render-spec : {M : Type 1} → statement M
 render-spec =

@@ -14,11 +14,11 @@ use Rattle.sampler_voice.proofs.piece.fade_along.Statement.{statement}
 use Rattle.sampler_voice.proofs.piece.fade_along.Tie as tie
 
 abbrev Inv-loop : tie.InvT-loop
-Inv-loop out₀ n j rec rn p fade rising f two k i₀ out i =
-    (i ≤ k) × (length out ≡ length out₀) × (out ≡ run rec rn fade n two (fading rising f) p j i out₀)
+Inv-loop out₀ n j rec rn p fade rising f ch k i₀ out i =
+    (i ≤ k) × (length out ≡ length out₀) × (out ≡ run rec rn fade n ch (fading rising f) p j i out₀)
 
 abbrev μ-loop : tie.MeasureT-loop
-μ-loop out₀ n j rec rn p fade rising f two k i₀ out i = k - i
+μ-loop out₀ n j rec rn p fade rising f ch k i₀ out i = k - i
 
 loop-holds : tie.Need-loop-holds Inv-loop μ-loop
 unfolding run
@@ -50,7 +50,7 @@ put-requires : tie.Need-put-requires Inv-loop μ-loop
 put-requires c κs =
     let s = c .before .before .before .before .before .before .before .before .before in
     let l = c .before .before .before .before .before .loop in
-    (Room.same (s .args .two) (s .args .n) (now (s .args .out)) (l .out) (l .inv .1) (s .pre .0), omega arith)
+    (Room.same (s .args .channels .output) (s .args .n) (now (s .args .out)) (l .out) (l .inv .1) (s .pre .0), omega arith)
 
 add-i : tie.Need-add-i Inv-loop μ-loop
 add-i c = omega arith
@@ -68,11 +68,11 @@ loop-again c =
     let scaled = c .before .before .before .scaled in
     let fetch = c .before .before .before .before .fetch in
     let level = c .before .before .before .before .before .before .fade-value in
-    let q : scaled .result ≡ faded (now (a .fade)) (later (l .i) (fading (a .rising) (a .f))) (fetched (now (a .rec)) (a .rn) (a .two) (a .p + l .i)) =
+    let q : scaled .result ≡ faded (now (a .fade)) (later (l .i) (fading (a .rising) (a .f))) (fetched (now (a .rec)) (a .rn) (a .channels) (a .p + l .i)) =
     rw (scaled .ensures, fetch .ensures, level .ensures) (sym (fading-scales (now (a .fade)) (a .rising) (a .f) (l .i) _)) in (
       omega (arith, below),
       put .kept .0 ∙ l .inv .1,
-      step (now (a .rec)) (a .rn) (now (a .fade)) (a .n) (a .two) (fading (a .rising) (a .f)) (a .p) (a .j) (l .i) (now (a .out)) (l .out) (put .last .0)
+      step (now (a .rec)) (a .rn) (now (a .fade)) (a .n) (a .channels) (fading (a .rising) (a .f)) (a .p) (a .j) (l .i) (now (a .out)) (l .out) (put .last .0)
           (scaled .result) (omega (arith, below, s .pre)) (fading-sounds (a .rising) (a .f) (l .i)) (l .inv .2) q (put .ensures),
     )
 

@@ -56,7 +56,7 @@ fade-along-requires-3 c κs =
     let s = c .before .before .before .before .before .before .before .before .before .before .before .before .before in
     let some = c .before .before .before .before .before .before .before .if3 .taken in
     let put = c .before .before .before .put in (
-      Room.same (s .args .two) (s .args .n) (now (s .args .out)) (put .last .0) (put .kept .0) (s .pre .0),
+      Room.same (s .args .channels .output) (s .args .n) (now (s .args .out)) (put .last .0) (put .kept .0) (s .pre .0),
       (s .pre .1 .0, (omega (arith, some, s .pre), (omega (arith, some, s .pre), (omega (arith, some, s .pre), (λ e. omega arith))))),
     )
 
@@ -72,7 +72,7 @@ returns-3 c =
     rw (c .before .before .before .before .before .before .before .before .before .before .before .before .if1 .left, f0)
     (c .before .before .fade-along3 .ensures
     ∙ rw (c .before .before .before .before .before .before .put .ensures, c .before .before .before .before .before .before .before .scaled .ensures, c .before .before .before .before .before .before .before .before .fetch .ensures)
-    (sym (peel (now (a .rec)) (a .rn) (now (a .fade)) (a .n) (a .two) (a .p) (a .j) (a .k) (now (a .out)) (omega (arith, some, s .pre)) some)))
+    (sym (peel (now (a .rec)) (a .rn) (now (a .fade)) (a .n) (a .channels) (a .p) (a .j) (a .k) (now (a .out)) (omega (arith, some, s .pre)) some)))
 
 returns-4 : tie.Need-returns-4
 unfolding run

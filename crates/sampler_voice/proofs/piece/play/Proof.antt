@@ -14,11 +14,11 @@ use Rattle.sampler_voice.proofs.piece.play.Statement.{statement}
 use Rattle.sampler_voice.proofs.piece.play.Tie as tie
 
 abbrev Inv-loop : tie.InvT-loop
-Inv-loop out₀ n j rec rn p fade two k i₀ out i =
-    (i ≤ k) × (length out ≡ length out₀) × (out ≡ run rec rn fade n two Playing p j i out₀)
+Inv-loop out₀ n j rec rn p fade ch k i₀ out i =
+    (i ≤ k) × (length out ≡ length out₀) × (out ≡ run rec rn fade n ch Playing p j i out₀)
 
 abbrev μ-loop : tie.MeasureT-loop
-μ-loop out₀ n j rec rn p fade two k i₀ out i = k - i
+μ-loop out₀ n j rec rn p fade ch k i₀ out i = k - i
 
 loop-holds : tie.Need-loop-holds Inv-loop μ-loop
 unfolding run
@@ -39,7 +39,7 @@ put-requires : tie.Need-put-requires Inv-loop μ-loop
 put-requires c κs =
     let s = c .before .before .before .before .before .before .before in
     let l = c .before .before .before .loop in
-    (Room.same (s .args .two) (s .args .n) (now (s .args .out)) (l .out) (l .inv .1) (s .pre .0), omega arith)
+    (Room.same (s .args .channels .output) (s .args .n) (now (s .args .out)) (l .out) (l .inv .1) (s .pre .0), omega arith)
 
 add-i : tie.Need-add-i Inv-loop μ-loop
 add-i c = omega arith
@@ -56,7 +56,7 @@ loop-again c =
     let put = c .before .before .put in (
       omega arith,
       put .kept .0 ∙ l .inv .1,
-      step (now (a .rec)) (a .rn) (now (a .fade)) (a .n) (a .two) Playing (a .p) (a .j) (l .i) (now (a .out)) (l .out) (put .last .0)
+      step (now (a .rec)) (a .rn) (now (a .fade)) (a .n) (a .channels) Playing (a .p) (a .j) (l .i) (now (a .out)) (l .out) (put .last .0)
           (c .before .before .before .fetch .result) (omega arith) refl (l .inv .2) (c .before .before .before .fetch .ensures) (put .ensures),
     )
 

@@ -23,7 +23,7 @@ returns : tie.Need-returns
 returns c =
     let s = c .before .before .before .before .before .before .before .before in
     let a = s .args in
-    rw (c .before .before .render-playing .ensures) (sym (in-over (now (a .rec)) (a .rn) (now (a .fade)) (a .n) (a .two) (a .i) (a .p) (a .j) (a .k) (now (a .out)) (c .before .before .before .before .if1 .taken) (s .pre .1 .1 .1 .0)))
+    rw (c .before .before .render-playing .ensures) (sym (in-over (now (a .rec)) (a .rn) (now (a .fade)) (a .n) (a .channels) (a .i) (a .p) (a .j) (a .k) (now (a .out)) (c .before .before .before .before .if1 .taken) (s .pre .1 .1 .1 .0)))
 
 sub-left : tie.Need-sub-left
 sub-left c = search needs
@@ -40,7 +40,7 @@ same-length-2 c = search needs
 returns-2 : tie.Need-returns-2
 returns-2 c =
     let a = c .before .before .before .before .before .before .before .before .before .args in
-    rw (c .before .before .render-fade .ensures) (sym (in-short (now (a .rec)) (a .rn) (now (a .fade)) (a .n) (a .two) (a .i) (a .p) (a .j) (a .k) (now (a .out)) (omega (arith, c .before .before .before .before .if2 .taken))))
+    rw (c .before .before .render-fade .ensures) (sym (in-short (now (a .rec)) (a .rn) (now (a .fade)) (a .n) (a .channels) (a .i) (a .p) (a .j) (a .k) (now (a .out)) (omega (arith, c .before .before .before .before .if2 .taken))))
 
 render-fade-requires-2 : tie.Need-render-fade-requires-2
 render-fade-requires-2 c κs = search needs
@@ -63,7 +63,7 @@ returns-3 c =
     let within = c .before .before .before .before .before .before .before .before .before .if1 .left in
     let m = length (now (a .fade)) - a .i in
     rw (c .before .before .render-playing2 .ensures, c .before .before .before .before .before .before .render-fade2 .ensures)
-    (sym (in-long (now (a .rec)) (a .rn) (now (a .fade)) (a .n) (a .two) (a .i) (a .p) (a .j) m (a .k) (now (a .out)) within (omega (arith, within)) (omega (arith, c .before .before .before .before .before .before .before .before .if2 .left))))
+    (sym (in-long (now (a .rec)) (a .rn) (now (a .fade)) (a .n) (a .channels) (a .i) (a .p) (a .j) m (a .k) (now (a .out)) within (omega (arith, within)) (omega (arith, c .before .before .before .before .before .before .before .before .if2 .left))))
 
 pub render-in-spec : {M : Type 1} → statement M
 render-in-spec =

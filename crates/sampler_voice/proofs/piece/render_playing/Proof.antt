@@ -26,12 +26,12 @@ returns c =
     let a = c .before .before .before .before .before .before .before .before .before .args in
     let r = c .before .before .before .before .reach in
     c .before .before .play .ensures
-    ∙ clip (now (a .rec)) (a .rn) (now (a .fade)) (a .n) (a .two) Playing (a .p) (a .j) (r .result) (a .k) (now (a .out)) (r .ensures .few) (r .ensures .all)
+    ∙ clip (now (a .rec)) (a .rn) (now (a .fade)) (a .n) (a .channels) Playing (a .p) (a .j) (r .result) (a .k) (now (a .out)) (r .ensures .few) (r .ensures .all)
 
 returns-2 : tie.Need-returns-2
 returns-2 c =
     let a = c .before .before .before .before .args in
-    nothing (now (a .rec)) (a .rn) (now (a .fade)) (a .n) (a .two) Playing (a .p) (a .j) (a .k) (now (a .out)) (c .if1 .left)
+    nothing (now (a .rec)) (a .rn) (now (a .fade)) (a .n) (a .channels) Playing (a .p) (a .j) (a .k) (now (a .out)) (c .if1 .left)
 
 pub render-playing-spec : {M : Type 1} → statement M
 render-playing-spec = tie.close (tie.spec reach-requires play-requires same-length returns returns-2)

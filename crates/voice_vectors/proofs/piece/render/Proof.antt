@@ -1,8 +1,8 @@
 -- `voice_vectors::piece::render` is safe: it asks `Voice::render` for no more than the buffers hold.
 -- The idea: half a buffer is room for one channel of two. Assumes nothing.
-use mathlib.Core.Bool.{Bool, true, false}
 use mathlib.Core.List.{List}
-use Prim.Native.Nat.{ℕ, _*_, _≤_}
+use Prim.Native.Nat.{ℕ, _*_, _<_, _≤_}
+use native.Mathlib.Nat.{le-trans, mul-le-mul-right}
 use native.Mathlib.Omega.{arith}
 use denote.Ref.{now}
 use lib.ListN.{length, length-take}
@@ -12,9 +12,8 @@ use borrow.Author.Needs.{needs}
 use Rattle.voice_vectors.proofs.piece.render.Statement.{statement}
 use Rattle.voice_vectors.proofs.piece.render.Tie as tie
 
-room : (two : Bool) (n : ℕ) (xs : List Float) → 2 * n ≤ length xs → Room two n xs
-room true n xs h = h
-room false n xs h = omega arith
+room : (c n : ℕ) (xs : List Float) → (0 < c) × (c ≤ 2) → 2 * n ≤ length xs → Room c n xs
+room c n xs l h = (l .0, le-trans (mul-le-mul-right n (l .1)) h)
 
 refused-requires : tie.Need-refused-requires
 refused-requires c κs = search needs
@@ -52,13 +51,27 @@ refused-requires-6 c κs = search needs
 returns-6 : tie.Need-returns-6
 returns-6 c = search needs
 
+two-or-one-requires : tie.Need-two-or-one-requires
+two-or-one-requires c κs = search needs
+
+two-or-one-requires-2 : tie.Need-two-or-one-requires-2
+two-or-one-requires-2 c κs = search needs
+
 slice-aggregate-render : tie.Need-slice-aggregate-render
 slice-aggregate-render c = simp length-take (omega arith)
 
 render-requires : tie.Need-render-requires
 render-requires c κs =
-    let a = c .before .before .before .before .before .before .before .before .before .before .before .before .before .before .before .before .before .args in
-    (room (a .a .two) (a .a .n) (now (a .out)) (omega arith), (room (a .a .two) (a .a .rn) (now (a .rec)) (omega arith), (omega arith, omega arith)))
+    let s = c .before .before .before .before .before .before .before .before .before .before .before .before .before .before .before .before .before .before .before in
+    let a = s .args in
+    let recording = c .before .before .before .two-or-one in
+    let output = c .before .before .two-or-one2 in (
+      room (output .result) (a .a .n) (now (a .out)) (output .ensures) (omega (arith, c .before .before .before .before .before .before .before .before .before .before .before .before .before .before .if1 .left)),
+      (
+        room (recording .result) (a .a .rn) (now (a .rec)) (recording .ensures) (omega (arith, c .before .before .before .before .before .before .before .before .before .before .before .before .if2 .left)),
+        (omega (arith, c .before .before .before .before .before .before .before .before .before .if4 .left, c .before .before .before .before .before .before .if5 .left), omega (arith, c .before .before .before .before .if6 .left, c .before .before .before .before .before .before .if5 .left, c .before .before .before .before .before .before .before .before .before .before .before .before .before .before .if1 .left, s .good)),
+      ),
+    )
 
 same-length : tie.Need-same-length
 same-length c = search needs
@@ -82,6 +95,8 @@ render-spec =
     returns-5
     refused-requires-6
     returns-6
+    two-or-one-requires
+    two-or-one-requires-2
     slice-aggregate-render
     render-requires
     same-length
