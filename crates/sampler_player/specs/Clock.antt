@@ -1,4 +1,4 @@
--- What Assign, pieces and voices ask of a time: a rate's answers are T, round S and E, and "whole-frame arithmetic" has its own. Definitions only.
+-- What Assign, pieces and voices ask of a time: a rate's answers are T, round S and E, and "Whole-frame arithmetic" has its own. Definitions only.
 use Prim.Native.Nat.{ℕ}
 use mathlib.Core.Option.{Option, none, some}
 use lib.IntN.{ℤ, pos, negsuc, _+ℤ_, _-ℤ_, _*ℤ_}

@@ -50,7 +50,7 @@ abbrev pub pointsGood : Setup → Points → Bool
 pointsGood s Absent = true
 pointsGood s (Between from end) = not (placeBad (from .bits) || placeBad (end .bits)) && not (loopShort (s .rate) (s .fade) (from .bits) (end .bits))
 
--- "start position 0 to 2^42; loop points pass 11 and 12; completed loops at most 2^27": what a block keeps as it is, but for the events
+-- "completed loops at most 2^27"; "start position 0 to 2^42; loop points pass 11 and 12": what a block keeps as it is, but for the events
 abbrev pub loopGood : Setup → Player → Bool
 loopGood s p = leb (p .completed) (2 ^ 27) && (within (pos 0) (pos (2 ^ 42)) (p .start .bits) && pointsGood s (p .points))
 

@@ -19,7 +19,6 @@ use Rattle.timestamp.proofs.Drift.{Drift}
 use Rattle.timestamp.proofs.Event.{event-delay}
 use Rattle.sampler_event.specs.declared.Event.{Event}
 use Rattle.sampler_event.proofs.Limits.{within-up}
-use Rattle.event_processor.specs.declared.Queue.{Queue}
 use Rattle.event_processor.specs.Queue.{pending, inOrder}
 use Rattle.event_processor.proofs.Front.{rest-order}
 use Rattle.event_processor.proofs.Ordered.{Ordered, ordered}
@@ -27,12 +26,12 @@ use Rattle.sampler_player.specs.declared.Setup.{Setup}
 use Rattle.sampler_player.specs.Pieces.{Lent}
 use Rattle.sampler_processor.specs.declared.Leg.{Leg}
 use Rattle.sampler_processor.specs.Numbers.{renderOrder}
-use Rattle.sampler_processor.specs.Block.{Running, Ended, opening, blockEnd, upTo, applied, block}
+use Rattle.sampler_processor.specs.Block.{Running, opening, blockEnd, upTo, applied, block}
 use Rattle.sampler_processor.specs.Calls.{Rendered, renderedTo, renderedBy, render}
-use Rattle.sampler_processor.specs.AtFrames.{below, exactFrame, toFrame, delays, delayAbove, delaysAbove, due, throughDue, AtFrames}
+use Rattle.sampler_processor.specs.AtFrames.{below, exactFrame, toFrame, delays, frameAnd8, delayAbove, delaysAbove, throughDue, AtFrames}
 use Rattle.sampler_processor.proofs.Admitted.{admitted}
 use Rattle.sampler_processor.proofs.Below.{rest-none, waits, left-waits}
-use Rattle.sampler_processor.proofs.Events.{Stands, below-end, frame-ahead, stands-first, exact-is, stands-exact, same-block}
+use Rattle.sampler_processor.proofs.Events.{Stands, event-done, event-now, below-end, frame-ahead, stands-first, exact-is, stands-exact, same-block}
 use Rattle.sampler_processor.proofs.Legs.{parts, queued}
 use Rattle.sampler_processor.proofs.Renders.{ready}
 use Rattle.sampler_processor.proofs.Turns.{length-pending}
@@ -47,28 +46,18 @@ times (negsuc m) n t R h = neg-minus (pos (suc m * R)) (t * R) (n * R) (sum (suc
     sum : (k : ℕ) → n + k ≡ t → k * R + n * R ≡ t * R
     sum k e = sym (add-mul k n R) ∙ ap (λ (x : ℕ). x * R) (add-comm k n ∙ e)
 
-above-is : (n t R : ℕ) → t * R < n * R + (2 ^ 32 + 8 * R) → delayAbove R (pos n -ℤ pos t) ≡ true
+above-is : (n t R : ℕ) → t * R < n * R + frameAnd8 R → delayAbove R (pos n -ℤ pos t) ≡ true
 above-is n t R h =
-    let x = negℤ (pos (2 ^ 32 + 8 * R)) in
+    let x = negℤ (pos (frameAnd8 R)) in
     let y = (pos n -ℤ pos t) *ℤ pos R in
     go (ltZ x y)
-    (nltZ-minus x y 0 (2 ^ 32 + 8 * R) (n * R) (t * R) (neg-minus (pos (2 ^ 32 + 8 * R)) (2 ^ 32 + 8 * R) 0 (add-zero (2 ^ 32 + 8 * R))) (times (pos n -ℤ pos t) n t R (nat-minus n t)))
+    (nltZ-minus x y 0 (frameAnd8 R) (n * R) (t * R) (neg-minus (pos (frameAnd8 R)) (frameAnd8 R) 0 (add-zero (frameAnd8 R))) (times (pos n -ℤ pos t) n t R (nat-minus n t)))
   where
-    go : (b : Bool) → (T (not b) → n * R + (2 ^ 32 + 8 * R) ≤ 0 + t * R) → b ≡ true
+    go : (b : Bool) → (T (not b) → n * R + frameAnd8 R ≤ 0 + t * R) → b ≡ true
     go true f = refl
     go false f = absurd (let k = f tt in omega arith)
 
 module _ (s : Setup) (b : Lent) (s0 : ℕ) (low : 8000 ≤ s .rate) (high : s .rate ≤ 96000) (some-frames : 0 < b .block) (few-frames : b .block ≤ 4096) where
-  -- the frames up to an event's own are rendered once it is applied
-  reached : (e : Event) (f : ℕ) (r : Running) → r .done ≤ f → applied s b (pos s0) e (upTo s b (pos s0) f r) .done ≡ f
-  unfolding applied upTo
-  reached e f r h = omega arith
-
-  -- and the event takes no time
-  same-now : (e : Event) (r : Running) → applied s b (pos s0) e r .now ≡ r .now
-  unfolding applied
-  same-now e r = refl
-
   -- of an event at t, after at most 16 of them
   delay-is : (t lo k : ℕ) (r : Running) → k ≤ 16 → r .done ≡ (t - s0) * s .rate / 2 ^ 32 → Stands s b s0 low high some-frames few-frames lo k r → delayAbove (s .rate) (r .now -ℤ pos t) ≡ true
   delay-is t lo k r q e j =
@@ -76,7 +65,7 @@ module _ (s : Setup) (b : Lent) (s0 : ℕ) (low : 8000 ≤ s .rate) (high : s .r
       (above-is (s0 + j .u) t (s .rate)
       (late (t - s0) (j .u) (omega arith) (mul-le-mul-right (s .rate) q) (event-delay (s .rate) k (t - s0) (j .u) (subst (λ (y : ℕ). Drift (s .rate) k y (j .u)) e (j .drift)) .0)))
     where
-      late : (d u : ℕ) → t ≤ d + s0 → k * s .rate ≤ 16 * s .rate → 2 * (d * s .rate) < 2 * (u * s .rate) + 2 ^ 33 + k * s .rate → t * s .rate < (s0 + u) * s .rate + (2 ^ 32 + 8 * s .rate)
+      late : (d u : ℕ) → t ≤ d + s0 → k * s .rate ≤ 16 * s .rate → 2 * (d * s .rate) < 2 * (u * s .rate) + 2 ^ 33 + k * s .rate → t * s .rate < (s0 + u) * s .rate + frameAnd8 (s .rate)
       late d u h g f = let m : t * s .rate ≤ (d + s0) * s .rate = mul-le-mul-right (s .rate) h in omega arith
 
   delays-from : (l : List Event) (lo k : ℕ) (r : Running) → Ordered lo l → inOrder l ≡ true → k + length l ≤ 16 → Stands s b s0 low high some-frames few-frames lo k r
@@ -96,10 +85,10 @@ module _ (s : Setup) (b : Lent) (s0 : ℕ) (low : 8000 ≤ s .rate) (high : s .r
           let f = exactFrame (s .rate) (e .time .bits -ℤ pos s0) in
           let x = exact-is s b s0 low high some-frames few-frames e (o .0) (o .1) in
           let d : applied s b (pos s0) e (toFrame s b (pos s0) e r) .done ≡ (o .0 - s0) * s .rate / 2 ^ 32 =
-          reached e f r (subst (λ (y : ℕ). r .done ≤ y) (sym x) (v .0)) ∙ x in
+          event-done s b s0 e f r (subst (λ (y : ℕ). r .done ≤ y) (sym x) (v .0)) ∙ x in
           let p = applied s b (pos s0) e (toFrame s b (pos s0) e r) in
           both
-          (ap₂ (λ (now at : ℤ). delayAbove (s .rate) (now -ℤ at)) (sym (same-now e (toFrame s b (pos s0) e r))) (o .1) ∙ delay-is (o .0) (o .0) (suc k) p (omega arith) d j)
+          (ap₂ (λ (now at : ℤ). delayAbove (s .rate) (now -ℤ at)) (sym (event-now s b s0 e (toFrame s b (pos s0) e r))) (o .1) ∙ delay-is (o .0) (o .0) (suc k) p (omega arith) d j)
           (ih p j)
 
 -- ---- the law
@@ -122,7 +111,9 @@ module _ (l : Leg) (b : Lent) (out : List Float) (s0 : ℕ) (z : firstBroken (re
       record {
         answer = e;
         others = λ places. ap (λ (x : Rendered). pending (x .answer .leg .queue)) e ∙ left-waits s (blockEnd s b (pos s0)) (pending q) q (waits s q (parts l (m .is-sound) .queue) places) .0;
-        delay = delays-from s b s0 (r .slow) (r .fast) some-frames (r .block) (pending q) 0 0 (opening (l .player) out (pos s0)) o (w .ordered) (omega arith) (stands-first s b s0 (r .slow) (r .fast) some-frames (r .block) (l .player) out 0);
+        delay =
+            delays-from s b s0 (r .slow) (r .fast) some-frames (r .block) (pending q) 0 0 (opening (l .player) out (pos s0)) o (w .ordered) (omega arith)
+            (stands-first s b s0 (r .slow) (r .fast) some-frames (r .block) (l .player) out 0);
       }
 
 pub at-frames : (l : Leg) (b : Lent) (out : List Float) (start : ℤ) → firstBroken (renderOrder l b out start) ≡ 0 → 1 ≤ b .block → AtFrames l b out start

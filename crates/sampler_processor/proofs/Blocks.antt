@@ -1,9 +1,9 @@
 -- Through a whole block what plays stays within the limits of `kept`: so every segment's bound is enough, and the leg that is handed back is sound.
 -- The idea: `Stands` says how far the current time may be from the frames rendered, which bounds an event's delay. Assumes nothing.
-use mathlib.Core.Path.{_≡_, refl, sym, ap, _∙_, subst}
+use mathlib.Core.Path.{_≡_, refl, sym, _∙_, subst}
 use mathlib.Core.Bool.{Bool, true, false, not, cond}
 use mathlib.Core.List.{List, [], _∷_}
-use Prim.Native.Nat.{ℕ, zero, suc, _+_, _-_, _*_, _/_, _^_, _≤_, _<_}
+use Prim.Native.Nat.{ℕ, suc, _+_, _-_, _*_, _/_, _^_, _≤_, _<_}
 use native.Mathlib.Nat.{mul-le-mul-right, mul-le-mul-left, le-refl, le-of-lt, sub-zero}
 use native.Mathlib.Omega.{arith}
 use lib.Dec.{T, leb, leb→le, nleb→lt}
@@ -32,7 +32,7 @@ use Rattle.sampler_player.proofs.Kept.{stands-at, stands-within}
 use Rattle.sampler_processor.specs.Block.{Running, Ended, opening, blockEnd, upTo, applied, block}
 use Rattle.sampler_processor.specs.AtFrames.{below, toFrame}
 use Rattle.sampler_processor.proofs.Below.{rest-none}
-use Rattle.sampler_processor.proofs.Events.{Stands, end-is, below-end, frame-ahead, stands-next, stands-first, exact-is, through, stands-exact, same-block}
+use Rattle.sampler_processor.proofs.Events.{Stands, end-is, below-end, frame-ahead, event-done, stands-next, stands-first, exact-is, through, stands-exact, same-block}
 
 -- what numbers 11 and 12 leave of each event
 abbrev pub Fit : Setup → Kind → Type 0
@@ -82,21 +82,13 @@ module _ (s : Setup) (b : Lent) (s0 : ℕ) (low : 8000 ≤ s .rate) (high : s .r
 
   -- ---- what plays
 
-  pub reached : (f : ℕ) (r : Running) → r .done ≤ f → upTo s b (pos s0) f r .done ≡ f
-  unfolding upTo
-  reached f r h = omega arith
-
-  pub applied-done : (e : Event) (u : Running) → applied s b (pos s0) e u .done ≡ u .done
-  unfolding applied
-  applied-done e u = refl
-
   module _ (seg : (x : ℕ) (g : Going) → g .remaining ≤ x → x ≤ 4096 → kept s x (g .player) ≡ true → kept s (x - g .remaining) (segment (clockAt (s .rate)) s b g .player) ≡ true)
       (app : (x : ℕ) (k : Kind) (z : ℤ) (p : Player) → x ≤ 4096 → Fit s k → Delayed x z → kept s x p ≡ true → kept s x (apply (s .rate) k z p) ≡ true) where
     pub up-to-kept : (f : ℕ) (r : Running) → r .done ≤ f → f ≤ b .block → kept s (b .block - r .done) (r .player) ≡ true → kept s (b .block - f) (upTo s b (pos s0) f r .player) ≡ true
     unfolding upTo
     up-to-kept f r h g i =
-        subst (λ (x : ℕ). kept s x (segment (clockAt (s .rate)) s b (record { player = r .player; out = r .out; at = r .done; remaining = f - r .done; pieces = r .pieces }) .player) ≡ true) (less (b .block) f (r .done) h g)
-        (seg (b .block - r .done) (record { player = r .player; out = r .out; at = r .done; remaining = f - r .done; pieces = r .pieces }) (omega arith) (omega arith) i)
+        let g' : Going = record { player = r .player; out = r .out; at = r .done; remaining = f - r .done; pieces = r .pieces } in
+        subst (λ (x : ℕ). kept s x (segment (clockAt (s .rate)) s b g' .player) ≡ true) (less (b .block) f (r .done) h g) (seg (b .block - r .done) g' (omega arith) (omega arith) i)
       where
         less : (n f d : ℕ) → d ≤ f → f ≤ n → n - d - (f - d) ≡ n - f
         less n f d h g = omega arith
@@ -111,7 +103,7 @@ module _ (s : Setup) (b : Lent) (s0 : ℕ) (low : 8000 ≤ s .rate) (high : s .r
         let v = frame-ahead s b s0 low high some-frames few-frames t lo k r l m i in
         let j = stands-next s b s0 low high some-frames few-frames e t lo k r l m i in
         let u = upTo s b (pos s0) f r in
-        let d : u .done ≡ f = reached f r (v .0) in
+        let d : u .done ≡ f = event-done s b s0 e f r (v .0) in
         let z : Delayed (b .block - u .done) (u .now -ℤ pos t) = delayed t t (suc k) (applied s b (pos s0) e u) q d j in
         app (b .block - f) (e .kind) (u .now -ℤ e .time .bits) (u .player) (omega arith) a
         (subst (λ (y : ℤ). Delayed (b .block - f) (u .now -ℤ y)) (sym h) (subst (λ (x : ℕ). Delayed (b .block - x) (u .now -ℤ pos t)) d z))
@@ -141,7 +133,7 @@ module _ (s : Setup) (b : Lent) (s0 : ℕ) (low : 8000 ≤ s .rate) (high : s .r
             let c = event-kept e (o .0) lo k r (o .1) (o .2) w (omega arith) (a .0) i p in
             let y = applied s b (pos s0) e (upTo s b (pos s0) f r) in
             let d : kept s (b .block - y .done) (y .player) ≡ true =
-            subst (λ (x : ℕ). kept s (b .block - x) (y .player) ≡ true) (sym (applied-done e (upTo s b (pos s0) f r) ∙ reached f r (v .0))) c in
+            subst (λ (x : ℕ). kept s (b .block - x) (y .player) ≡ true) (sym (event-done s b s0 e f r (v .0))) c in
             ih (applied s b (pos s0) e (toFrame s b (pos s0) e r))
             (stands-exact s b s0 low high some-frames few-frames e (o .0) lo k r (o .1) (o .2) h (omega arith) i)
             (subst (λ (x : ℕ). kept s (b .block - applied s b (pos s0) e (upTo s b (pos s0) x r) .done) (applied s b (pos s0) e (upTo s b (pos s0) x r) .player) ≡ true)

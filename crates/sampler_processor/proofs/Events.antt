@@ -7,7 +7,7 @@ use Prim.Native.Nat.{ℕ, zero, suc, _+_, _-_, _*_, _/_, _^_, _≤_, _<_, max}
 use native.Mathlib.Nat.{mul-le-mul-left, mul-le-mul-right, le-trans, le-refl, add-zero, zero-mul, zero-div}
 use native.Mathlib.Omega.{arith}
 use borrow.Author.Tests.{lt-ltb, ltb-true}
-use lib.Dec.{T, ltb, ltb→lt, nltb→le, lit≤}
+use lib.Dec.{T, ltb, ltb→lt, nltb→le}
 use lib.IntN.{ℤ, pos, negsuc, _+ℤ_, _-ℤ_}
 use lib.ListN.{length}
 use lib.Signed.{ltZ}
@@ -33,6 +33,15 @@ use Rattle.sampler_processor.specs.AtFrames.{below, withoutEach, exactFr
 use Rattle.sampler_processor.proofs.Below.{rest-none}
 
 module _ (s : Setup) (b : Lent) (s0 : ℕ) where
+  -- the frames rendered, and the current time, once an event is applied
+  pub event-done : (e : Event) (f : ℕ) (r : Running) → r .done ≤ f → applied s b (pos s0) e (upTo s b (pos s0) f r) .done ≡ f
+  unfolding applied upTo
+  event-done e f r h = omega arith
+
+  pub event-now : (e : Event) (r : Running) → applied s b (pos s0) e r .now ≡ r .now
+  unfolding applied
+  event-now e r = refl
+
   module _ (low : 8000 ≤ s .rate) (high : s .rate ≤ 96000) (some-frames : 0 < b .block) (few-frames : b .block ≤ 4096) where
     -- T of a number of frames that a block may have
     pub time-any : (n : ℕ) → n < 8 * s .rate → (t : ℕ) × (timeOf (s .rate) n ≡ pos t) × Near t (n * 2 ^ 32) (s .rate)

@@ -14,7 +14,6 @@ use Rattle.laws.specs.Rules.{firstBroken, within}
 use Rattle.sampler_event.proofs.Limits.{within-up}
 use Rattle.event_processor.specs.Queue.{pending}
 use Rattle.event_processor.proofs.Ordered.{ordered}
-use Rattle.sampler_player.specs.declared.Setup.{Setup}
 use Rattle.sampler_player.specs.Pieces.{Lent}
 use Rattle.sampler_player.specs.inner.Kept.{kept}
 use Rattle.sampler_player.proofs.Enough.{segment-kept}
@@ -52,7 +51,8 @@ module _ (l : Leg) (h : sound l ≡ true) (places : length (l .queue .events) �
             kept-good s (through (pos s0) .running .player)
             (subst (λ (x : ℕ). kept s x (through (pos s0) .running .player) ≡ true) (spent (b .block))
             (kept-through s b s0 (r .slow) (r .fast) some (r .block) soon (λ x g i small k. segment-kept s b (r .slow) (r .fast) (r .table) x small g i k)
-            (λ x e z p small f d k. apply-kept s x (r .fast) small e z p (f .0) (f .1) d k) (pending q) q (l .player) out o (w .ordered) (all-fit s (pending q) (w .each-one)) n (near l b out (pos s0) a)));
+            (λ x e z p small f d k. apply-kept s x (r .fast) small e z p (f .0) (f .1) d k) (pending q) q (l .player) out o (w .ordered)
+            (all-fit s (pending q) (w .each-one)) n (near l b out (pos s0) a)));
         queue =
             subst (λ (z : Ended). queueGood s (z .queue) ≡ true) (sym (same-block s b s0 (r .slow) (r .fast) some (r .block) (pending q) q (l .player) out o (w .ordered) n))
             (waits-good s _ _ (left-waits s (blockEnd s b (pos s0)) (pending q) q (waits s q (parts l h .queue) places)));

@@ -23,7 +23,7 @@ use Rattle.sampler_player.specs.inner.Lending.{Ready}
 use Rattle.sampler_processor.specs.declared.block.Stand.{Stand}
 use Rattle.sampler_processor.specs.Numbers.{queueGood}
 use Rattle.sampler_processor.specs.Block.{Running, Ended, opening, blockEnd, upTo, past, block}
-use Rattle.sampler_processor.specs.inner.Stands.{running, Reaches, Left, leftOf}
+use Rattle.sampler_processor.specs.inner.Stands.{running, Reaches, leftOf}
 use Rattle.sampler_processor.proofs.Times.{up-to, up-within}
 use Rattle.sampler_processor.proofs.Turns.{Turn, turn-first, turn-due, turn-last, now-up, pieces-few}
 

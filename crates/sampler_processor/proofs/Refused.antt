@@ -1,4 +1,4 @@
--- What a call hands back by its number: "A refusal returns the old leg (making: a blank leg)", and what making hands back otherwise is sound.
+-- What a call hands back by its number: "A refusal returns the old leg (making: a blank leg ..", and what making hands back otherwise is sound.
 -- The idea: each answer is the definition's under the tests that led to its number, and with 9 the queue is as it was. Assumes nothing.
 use Prim.Native.Nat.{ℕ, zero, suc}
 use mathlib.Core.Path.{_≡_, refl, ap, _∙_}

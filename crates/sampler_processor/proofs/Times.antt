@@ -2,8 +2,8 @@
 -- The idea: the refusal's test is the range of an i64. Assumes nothing.
 use mathlib.Core.Path.{_≡_, sym, ap, subst}
 use mathlib.Core.Bool.{Bool, true, cond}
-use mathlib.Core.Option.{Option, none, some}
-use Prim.Native.Nat.{ℕ, suc, _+_, _-_, _*_, _^_, _≤_, _<_}
+use mathlib.Core.Option.{none, some}
+use Prim.Native.Nat.{ℕ, suc, _+_, _*_, _^_, _≤_, _<_, zero-le}
 use native.Mathlib.Nat.{le-trans}
 use native.Mathlib.Omega.{arith}
 use lib.Dec.{T, leb, leb→le, le→leb, lit≤}
@@ -70,7 +70,9 @@ apart-fits a b u v =
     near' m n h = omega arith
 
 pub up-within : (m : ℕ) (z : ℤ) → UpTo m z → T (within (pos 0) (pos m) z)
-up-within m z u = subst (λ (y : ℤ). T (within (pos 0) (pos m) y)) (sym (u .is)) (yes-and (leb 0 (natAbs z)) (leb (natAbs z) m) (le→leb 0 (natAbs z) Prim.Native.Nat.zero-le) (le→leb (natAbs z) m (u .most)))
+up-within m z u =
+    let n = natAbs z in
+    subst (λ (y : ℤ). T (within (pos 0) (pos m) y)) (sym (u .is)) (yes-and (leb 0 n) (leb n m) (le→leb 0 n zero-le) (le→leb n m (u .most)))
 
 pub up-more : (m n : ℕ) (z : ℤ) → m ≤ n → UpTo m z → UpTo n z
 up-more m n z h u = record { is = u .is; most = le-trans (u .most) h }

@@ -3,17 +3,16 @@
 use mathlib.Core.Path.{_≡_, refl, sym, ap, ap₂, _∙_, subst}
 use mathlib.Core.Bool.{Bool, true, false, cond, _&&_, and-eq-true-iff}
 use mathlib.Core.List.{List, [], _∷_}
-use Prim.Native.Nat.{ℕ, zero, suc, _+_, _-_, _*_, _/_, _^_, _≤_, _<_}
+use Prim.Native.Nat.{ℕ, suc, _+_, _-_, _*_, _/_, _^_, _≤_, _<_}
 use native.Mathlib.Nat.{mul-le-mul-right, le-refl, le-trans, le-of-lt, le-of-eq, sub-le, sub-zero}
 use native.Mathlib.Omega.{arith}
 use borrow.Author.Tests.{lt-ltb, leb-true, le-leb}
 use lib.Dec.{lit≤}
-use lib.IntN.{ℤ, pos, negsuc, negℤ, natAbs, _+ℤ_, _-ℤ_}
+use lib.IntN.{ℤ, pos, negsuc, negℤ, natAbs, _-ℤ_}
 use lib.ListN.{length, drop, length-take}
 use lib.Signed.{ltZ}
 use lib.Ieee.{Float}
 use Rattle.laws.proofs.Tests.{yes}
-use Rattle.timestamp.specs.Time.{timeOf}
 use Rattle.sampler_event.specs.declared.Event.{Event}
 use Rattle.sampler_event.specs.declared.Kind.{Kind}
 use Rattle.laws.specs.Rules.{within}
@@ -36,13 +35,13 @@ use Rattle.sampler_player.specs.inner.Kept.{kept}
 use Rattle.sampler_player.proofs.Enough.{segment-kept}
 use Rattle.sampler_player.proofs.Applied.{apply-kept}
 use Rattle.sampler_processor.specs.Numbers.{queueGood}
-use Rattle.sampler_processor.specs.Block.{Running, Ended, frameOf, opening, blockEnd, upTo, applied, past, onward, block}
+use Rattle.sampler_processor.specs.Block.{Running, Ended, opening, blockEnd, upTo, applied, past, onward, block}
 use Rattle.sampler_processor.specs.inner.Stands.{Reaches}
 use Rattle.sampler_processor.proofs.Times.{up-within, up-more}
 use Rattle.sampler_processor.proofs.Legs.{queued}
 use Rattle.sampler_processor.proofs.NoneDue.{none-due}
-use Rattle.sampler_processor.proofs.Events.{Stands, below-end, frame-is, frame-ahead, stands-next, stands-first}
-use Rattle.sampler_processor.proofs.Blocks.{Fit, AllFit, Delayed, delayed, event-kept, up-to-kept, reached, applied-done}
+use Rattle.sampler_processor.proofs.Events.{Stands, below-end, frame-is, frame-ahead, event-done, event-now, stands-next, stands-first}
+use Rattle.sampler_processor.proofs.Blocks.{Fit, AllFit, Delayed, delayed, event-kept}
 use Rattle.sampler_processor.proofs.Segments.{segment-pieces}
 
 -- ---- what a good queue gives
@@ -165,10 +164,6 @@ module _ (s : Setup) (b : Lent) (s0 : ℕ) (Z : Ended) (q : Queue) (r : Running)
       let p = u .pieces in
       omega (arith, g)
 
-  now-here : (x : Event) (y : Running) → applied s b (pos s0) x y .now ≡ y .now
-  unfolding applied
-  now-here x y = refl
-
   at-head : (x : Event) (xs : List Event) → pending q ≡ x ∷ xs → ltZ (x .time .bits) (blockEnd s b (pos s0)) ≡ true → Taken s b s0 Z q r x
   at-head x xs p h =
       let o : Ordered (u .lo) (x ∷ xs) = subst (Ordered (u .lo)) p (u .order) in
@@ -184,14 +179,15 @@ module _ (s : Setup) (b : Lent) (s0 : ℕ) (Z : Ended) (q : Queue) (r : Running)
       let y = applied s b (pos s0) x (upTo s b (pos s0) F r) in
       let j = stands-next s b s0 (u .low) (u .high) (u .some-frames) (u .few-frames) x t (u .lo) (u .k) r (o .2) m (u .at) in
       let k = event-kept s b s0 (u .low) (u .high) (u .some-frames) (u .few-frames) (u .soon) seg app x t (u .lo) (u .k) r (o .1) (o .2) m (omega (arith, n)) (a .0) (u .at) (u .inside) in
-      let f : y .done ≡ F = applied-done s b s0 (u .low) (u .high) (u .some-frames) (u .few-frames) (u .soon) x (upTo s b (pos s0) F r) ∙ reached s b s0 (u .low) (u .high) (u .some-frames) (u .few-frames) (u .soon) F r (v .0) in
+      let f : y .done ≡ F = event-done s b s0 x F r (v .0) in
       let z = delayed s b s0 (u .low) (u .high) (u .some-frames) (u .few-frames) (u .soon) t t (suc (u .k)) y (omega (arith, n)) f j in
       let w : pending (without q) ≡ xs = pending-without q (le-trans (u .room) (le-of-eq (sym (u .places)))) ∙ ap (drop 1) p in
       let at-F : Next x F = (
         v .0,
         v .1,
         subst (λ (i : ℤ). within (negℤ (pos (2 ^ 20))) (pos (2 ^ 49)) (upTo s b (pos s0) F r .now -ℤ i) ≡ true) (sym (o .1))
-            (subst (λ (i : ℤ). within (negℤ (pos (2 ^ 20))) (pos (2 ^ 49)) (i -ℤ pos t) ≡ true) (now-here x (upTo s b (pos s0) F r)) (shorter (b .block - y .done) (y .now -ℤ pos t) (few-left (y .done)) z)),
+            (subst (λ (i : ℤ). within (negℤ (pos (2 ^ 20))) (pos (2 ^ 49)) (i -ℤ pos t) ≡ true) (event-now s b s0 x (upTo s b (pos s0) F r))
+            (shorter (b .block - y .done) (y .now -ℤ pos t) (few-left (y .done)) z)),
         λ (is : block s b (pos s0) (pending (without q)) (without q) y ≡ Z).
             record {
               low = u .low;

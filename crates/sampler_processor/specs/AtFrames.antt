@@ -15,7 +15,7 @@ use Rattle.sampler_player.specs.declared.Setup.{Setup}
 use Rattle.sampler_player.specs.Pieces.{Lent}
 use Rattle.sampler_processor.specs.declared.Leg.{Leg}
 use Rattle.sampler_processor.specs.Block.{Running, Ended, opening, blockEnd, upTo, applied}
-use Rattle.sampler_processor.specs.Calls.{Rendered, renderedTo, render}
+use Rattle.sampler_processor.specs.Calls.{renderedTo, render}
 
 -- ---- which events
 
@@ -55,9 +55,12 @@ module _ (s : Setup) (b : Lent) (start : ℤ) where
   delays [] r = []
   delays (e ∷ es) r = (toFrame e r .now -ℤ e .time .bits) ∷ delays es (applied s b start e (toFrame e r))
 
--- "which may be negative by less than a frame plus 8 units": a frame is 2^32/R units
+-- "which may be negative by less than a frame plus 8 units": a frame is 2^32/R units, so both sides are R times as large
+abbrev pub frameAnd8 : ℕ → ℕ
+frameAnd8 R = 2 ^ 32 + 8 * R
+
 abbrev pub delayAbove : ℕ → ℤ → Bool
-delayAbove R delay = ltZ (negℤ (pos (2 ^ 32 + 8 * R))) (delay *ℤ pos R)
+delayAbove R delay = ltZ (negℤ (pos (frameAnd8 R))) (delay *ℤ pos R)
 
 abbrev pub delaysAbove : ℕ → List ℤ → Bool
 delaysAbove R [] = true

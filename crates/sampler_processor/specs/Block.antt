@@ -14,7 +14,7 @@ use Rattle.sampler_player.specs.declared.Setup.{Setup}
 use Rattle.sampler_player.specs.declared.Player.{Player}
 use Rattle.sampler_player.specs.Clock.{clockAt}
 use Rattle.sampler_player.specs.Events.{apply}
-use Rattle.sampler_player.specs.Pieces.{Lent, Going, segment}
+use Rattle.sampler_player.specs.Pieces.{Lent, segment}
 
 -- "Its frame is the floor of S(later of event time and current time, minus start)"
 unfoldable pub frameOf : ℕ → ℤ → ℤ → ℤ → ℕ

@@ -1,11 +1,10 @@
 -- The calls: making a leg, a command, a render. Definitions only.
 use Prim.Native.Nat.{ℕ, zero, suc}
 use mathlib.Core.Bool.{cond}
-use mathlib.Core.List.{List, [], _∷_}
+use mathlib.Core.List.{List}
 use lib.Dec.{eqb}
 use lib.IntN.{ℤ}
 use lib.Ieee.{Float}
-use Rattle.sampler_event.specs.declared.Event.{Event}
 use Rattle.sampler_event.specs.declared.EventAnswer.{EventAnswer}
 use Rattle.laws.specs.Rules.{firstBroken}
 use Rattle.sampler_event.specs.Command.{commandAnswer}
@@ -51,7 +50,7 @@ commanded l a = cond (eqb (a .number) 0) (enteredIn l (received (a .event) (l .q
 unfoldable pub submit : Leg → List ℕ → LegAnswer
 submit l bytes = cond (sound l) (commanded l (commandAnswer (l .setup .rate) (l .setup .fade) bytes)) (legAnswer 14 l)
 
--- ---- a render: number, next leg, pieces and output. "A refusal returns the old leg, pieces 0, and writes nothing"
+-- ---- a render: number, next leg, pieces and output. "A refusal returns the old leg .., pieces 0, and writes nothing"
 
 pub record Rendered : Type 0 where
   pub answer : RenderAnswer

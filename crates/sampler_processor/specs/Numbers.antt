@@ -1,6 +1,6 @@
 -- "Numbers a call may answer": each rule of the leg, true where its number is given; "A leg is damaged unless"; and the order of each call. Definitions only.
 use Prim.Native.Nat.{ℕ, _*_, _^_}
-use mathlib.Core.Bool.{Bool, true, false, _&&_, _||_, not}
+use mathlib.Core.Bool.{Bool, false, _&&_, _||_, not}
 use mathlib.Core.List.{List, [], _∷_}
 use lib.Dec.{leb, ltb, eqb}
 use lib.IntN.{ℤ, pos}

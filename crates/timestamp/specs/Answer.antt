@@ -1,4 +1,4 @@
--- What each call of `timestamp` answers: a number of document 01 and a value. 0 is no refusal; "Order. Timestamps: 1, 15"; a refusal returns "zeros". Definitions only.
+-- What each call of `timestamp` answers: a number of document 01 and a value. 0 is no refusal; the order is "Timestamps: 1, 15"; a refusal returns "zeros". Definitions only.
 use Prim.Native.Nat.{ℕ, _^_}
 use mathlib.Core.Bool.{Bool, false, _&&_, cond}
 use mathlib.Core.Option.{Option, none, some}

@@ -1,6 +1,6 @@
 -- What a render that is not refused has been given: sizes in range, at most 4,096 frames, a start and a position within their limits, and events that are admissible and in order.
 -- The idea: no rule of its order is broken (`Admitted`), and each is a bound. Assumes nothing.
-use Prim.Native.Nat.{ℕ, _^_, _≤_}
+use Prim.Native.Nat.{_^_, _≤_}
 use mathlib.Core.Path.{_≡_}
 use mathlib.Core.Bool.{true, false, _&&_}
 use mathlib.Core.List.{List}
