@@ -60,5 +60,7 @@ drifts R D P ms a e =
     let d = drift R D ms a in
     let x = d .0 * R in
     let y = total ms * 2 ^ 32 in
+    let h =
     subst (λ (z : ℤ). 2 * natAbs (z *ℤ pos R -ℤ pos y) ≤ length ms * R) (sym (gone P D (d .0) (e ∙ d .1)))
-    (apart (pos x -ℤ pos y) x y (length ms * R) (nat-minus x y) (d .2 .0) (d .2 .1))
+    (apart (pos x -ℤ pos y) x y (length ms * R) (nat-minus x y) (d .2 .0) (d .2 .1)) in
+    omega (arith, h)
