@@ -1,25 +1,24 @@
 -- Document 01, "Frames to check": rows m1 to m12 and the limits under the table, with a row more for each of two traps (T of the sum, voices added together first), in one statement.
 -- The idea: the definitions compute; a test on numbers holds by `tt`. Assumes nothing.
 use Prim.Native.Nat.{ℕ, zero, suc, _/_, _%_, _^_}
-use mathlib.Core.Bool.{Bool, true, false, _&&_}
+use mathlib.Core.Bool.{Bool, true, _&&_}
 use lib.Dec.{eqb, T}
 use mathlib.Core.List.{List, [], _∷_, _++_}
 use lib.IntN.{ℤ, pos, negsuc, _-ℤ_}
 use lib.ListN.{replicate, take, drop, length}
 use lib.Ieee.{Float, binary32, ofBits, ofInt, div, add, mul, neg, le, round, toBits}
 use Rattle.timestamp.specs.Time.{time, timeOf, seconds, framesOf, loopEnd}
-use Rattle.sampler_voice.specs.declared.Phase.the-variants.{Stopped, FadingIn, Playing, FadingOut}
-use Rattle.sampler_voice.specs.declared.Voice.{Voice}
+use Rattle.sampler_voice.specs.declared.Phase.the-variants.{FadingIn, Playing}
 use Rattle.sampler_fade.specs.Entry.{cleanedFade, fadeAt, one, none}
 use Rattle.sampler_voice.specs.Sound.{cleaned, fetched, added}
 use Rattle.sampler_voice.specs.Voices.{settled, nextPhase, faded, sounded, frame, frames, mix, silent}
-use Rattle.sampler_event.specs.declared.Kind.the-variants.{Start, StartImmediate, Stop, EnableLoop, CancelLoop, CancelAll}
+use Rattle.sampler_event.specs.declared.Kind.the-variants.{Start, CancelAll}
 use Rattle.sampler_event.specs.Record.{fields, eventOf, readRecord}
 use Rattle.sampler_event.specs.Limits.{eventFault, admissible}
 use Rattle.sampler_event.specs.Command.{commandAnswer}
-use Rattle.event_processor.specs.Queue.{received, pending}
-use Rattle.sampler_player.specs.declared.Active.the-variants.{Neither, Number}
-use Rattle.sampler_player.specs.declared.Points.the-variants.{Absent, Between}
+use Rattle.event_processor.specs.Queue.{received}
+use Rattle.sampler_player.specs.declared.Active.the-variants.{Number}
+use Rattle.sampler_player.specs.declared.Points.the-variants.{Between}
 use Rattle.sampler_player.specs.declared.Setup.{Setup}
 use Rattle.sampler_player.specs.declared.Player.{Player}
 use Rattle.sampler_player.specs.Clock.{clockAt, wholeFrames}

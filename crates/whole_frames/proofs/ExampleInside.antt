@@ -1,10 +1,9 @@
 -- A run that begins inside a block: EnableLoop and StartImmediate at frame 0, and a start from the recording's frame 10 at frame 20, after one piece. The same loop, blocks and recording.
 -- The idea: as in Example. Assumes nothing.
-use Prim.Native.Nat.{ℕ, _≤_}
 use mathlib.Core.Path.{_≡_, refl, subst}
-use mathlib.Core.Bool.{Bool, true, _&&_}
+use mathlib.Core.Bool.{Bool, _&&_}
 use mathlib.Core.List.{List, [], _∷_, _++_}
-use lib.Dec.{eqb, T, lit≤}
+use lib.Dec.{T, lit≤}
 use lib.IntN.{pos}
 use lib.ListN.{replicate, take, drop, length}
 use Rattle.sampler_fade.specs.Entry.{none}

@@ -2,7 +2,7 @@
 -- The idea: every point is reached by whole calls (Calls) and a part of a block (Blocks), and the pieces of all add up (Drift). Assumes nothing.
 use Prim.Native.Nat.{ℕ, _≤_}
 use native.Mathlib.Nat.{le-trans, mul-le-mul-right}
-use mathlib.Core.Path.{_≡_, sym, subst}
+use mathlib.Core.Path.{sym, subst}
 use mathlib.Core.List.{List, _∷_}
 use lib.IntN.{ℤ}
 use lib.ListN.{length}
@@ -10,7 +10,7 @@ use Rattle.event_processor.specs.Queue.{pending}
 use Rattle.sampler_player.specs.declared.Setup.{Setup}
 use Rattle.sampler_player.specs.declared.Player.{Player}
 use Rattle.sampler_processor.specs.declared.Leg.{Leg}
-use Rattle.whole_frames.specs.Run.{Told, then, Call, opening, toldAll, legAfter, legAfterAll, reportedAll, Midway, legRest, toldRest, callOf, toldFrom, reportedFrom, Point, between, within, PointFrom, before, after, noStart, Drifts}
+use Rattle.whole_frames.specs.Run.{Told, then, Call, opening, toldAll, legAfterAll, reportedAll, Midway, legRest, toldRest, callOf, toldFrom, reportedFrom, Point, between, within, PointFrom, before, after, noStart, Drifts}
 use Rattle.whole_frames.proofs.Drift.{drifts}
 use Rattle.whole_frames.proofs.Accepted.{accepted}
 use Rattle.whole_frames.proofs.Blocks.{Moves, moves-then}

@@ -1,7 +1,7 @@
 -- A stretch of a run beside the same in whole frames (`Joined`): what it gives, and where it leaves both, so that stretches join.
 -- The idea: `run` says it of any parts that may follow, so that two stretches compose. Assumes nothing.
 use mathlib.Core.Path.{_≡_, refl, sym, ap, _∙_, subst}
-use Prim.Native.Nat.{ℕ, _+_, _-_, _^_, _≤_}
+use Prim.Native.Nat.{ℕ, _+_, _^_, _≤_}
 use native.Mathlib.Nat.{add-zero}
 use mathlib.Core.List.{List, [], _∷_, _++_, append-assoc, append-nil}
 use lib.IntN.{ℤ}

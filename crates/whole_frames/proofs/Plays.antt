@@ -1,6 +1,6 @@
 -- A run to which no event comes, from a leg: all its parts join, whole blocks and one that is cut by an event.
 -- The idea: a block up to its next event is a part of at most 4,096 frames (`stop-inside`), and the calls before it join (Quiet). Assumes nothing.
-use mathlib.Core.Path.{_≡_, sym, subst}
+use mathlib.Core.Path.{sym, subst}
 use Prim.Native.Nat.{ℕ, _+_, _^_, _≤_}
 use native.Mathlib.Nat.{le-trans}
 use native.Mathlib.Omega.{arith}

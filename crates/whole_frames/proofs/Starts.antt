@@ -1,11 +1,11 @@
 -- Where a run may begin: what a start leaves, and a fresh leg; and a start at the place where the active voice stands is not heard.
 -- The idea: the definitions of the events, read off. Assumes nothing.
 use mathlib.Core.Path.{_≡_, refl, sym, ap, _∙_, subst}
-use Prim.Native.Nat.{ℕ, _+_, _*_, _^_, _≤_}
+use Prim.Native.Nat.{ℕ, _*_, _^_, _≤_}
 use native.Mathlib.Nat.{zero-mul}
 use native.Mathlib.Omega.{arith}
 use mathlib.Core.Bool.{Bool, true, cond}
-use lib.IntN.{ℤ, pos, natAbs, _+ℤ_, _-ℤ_, +ℤ-idr}
+use lib.IntN.{ℤ, pos, natAbs, _-ℤ_, +ℤ-idr}
 use Rattle.timestamp.specs.declared.Timestamp.{Timestamp}
 use Rattle.timestamp.specs.Time.{frameNear}
 use Rattle.sampler_event.specs.declared.Kind.{Kind}
