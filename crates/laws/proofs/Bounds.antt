@@ -1,17 +1,16 @@
--- Finite values of at most a whole number in magnitude: what rounding, products and sums make of that bound.
+-- Finite values of at most a whole number in magnitude: what rounding and products make of that bound.
 -- The idea: a bound with fewer digits than the format keeps is a value of the format, and rounding keeps the order. Assumes nothing.
 use mathlib.Core.Path.{_≡_, sym, ap, _∙_, subst}
-use mathlib.Core.Bool.{Bool, true, false, cond, _&&_, Bool·beq}
+use mathlib.Core.Bool.{Bool}
 use Prim.Native.Nat.{ℕ, suc, _+_, _-_, _*_, _^_, _≤_, _<_}
 use native.Mathlib.Nat.{zero-lt-suc, le-trans, le-of-eq, lt-of-le-of-lt, lt-of-lt-of-le, mul-one, mul-assoc, mul-comm, mul-right-comm, mul-le-mul-left, mul-le-mul-right, mul-lt-mul-of-pos-right, mul-pos, le-of-mul-le-mul-right}
 use native.Mathlib.Omega.{arith}
-use lib.Dec.{T, ltb}
 use lib.Pow.{pow-add, pow-pos, pow-mono}
-use lib.Ieee.{Float, nan, inf, fin, Format, prec, emax, low, up, down, unlike, round, sum, add, mul}
+use lib.Ieee.{Float, nan, inf, fin, Format, prec, emax, low, up, down, unlike, round, mul}
 use lib.Ieee.Fits.{down-pos, reach}
 use lib.Ieee.Exact.{HasValue}
 use lib.Ieee.Order.{drop}
-use lib.Ieee.Scale.{grid, overflow, finite}
+use lib.Ieee.Scale.{grid, overflow}
 use Rattle.laws.proofs.Round.{grid-mono, grid-exact, drop-le, round-value}
 
 -- x is finite, and at most B in magnitude
@@ -19,16 +18,6 @@ abbrev pub AtMost : ℕ → Float → Type 0
 AtMost B nan = ⊥
 AtMost B (inf s) = ⊥
 AtMost B (fin s m e) = m * up e ≤ B * down e
-
-pub most-finite : (B : ℕ) (x : Float) → AtMost B x → T (finite x)
-most-finite B nan h = h
-most-finite B (inf s) h = h
-most-finite B (fin s m e) h = tt
-
-pub most-more : (B C : ℕ) (x : Float) → B ≤ C → AtMost B x → AtMost C x
-most-more B C nan l h = h
-most-more B C (inf s) l h = h
-most-more B C (fin s m e) l h = le-trans h (mul-le-mul-right (down e) l)
 
 -- ---- rounding
 most-of-value : (B : ℕ) (x : Float) (s : Bool) (a c : ℕ) → 0 < c → HasValue x s a c → a ≤ B * c → AtMost B x
@@ -48,7 +37,7 @@ whole-grid f B b =
     (subst (λ (z : ℕ). drop (prec f) (B * 2 ^ low f) 1 ≤ z) (whole-drop (prec f) (low f)) (drop-le f B 1 (prec f) (zero-lt-suc 0) (subst (λ (z : ℕ). B < z) (sym (mul-one (2 ^ prec f))) b)))
     (sym (mul-one (B * 2 ^ low f)))
 
-pub round-most : (f : Format) (s : Bool) (a c B : ℕ) → 0 < c → B < 2 ^ prec f → a ≤ B * c → AtMost B (round f s a c)
+round-most : (f : Format) (s : Bool) (a c B : ℕ) → 0 < c → B < 2 ^ prec f → a ≤ B * c → AtMost B (round f s a c)
 round-most f s a c B C b l =
     let g : grid f a c ≤ B * 2 ^ low f =
     le-trans (grid-mono f a c B 1 C (zero-lt-suc 0) (le-trans (le-of-eq (mul-one a)) l)) (le-of-eq (whole-grid f B b)) in
@@ -58,7 +47,7 @@ round-most f s a c B C b l =
     (round-value f s a c (lt-of-le-of-lt g (lt-of-lt-of-le (mul-lt-mul-of-pos-right b (pow-pos (low f))) top)))
     g
 
--- ---- products and sums
+-- ---- products
 times : (x y A B p q : ℕ) → x ≤ A * p → y ≤ B * q → x * y ≤ A * B * (p * q)
 times x y A B p q h k =
     le-trans (le-trans (mul-le-mul-right y h) (mul-le-mul-left (A * p) k)) (le-of-eq (rearrange A B p q))
@@ -74,33 +63,3 @@ mul-most f A B (fin s m e) nan l h k = k
 mul-most f A B (fin s m e) (inf t) l h k = absurd k
 mul-most f A B (fin s m e) (fin t n d) l h k =
     round-most f (unlike s t) (m * up e * (n * up d)) (down e * down d) (A * B) (mul-pos (down-pos e) (down-pos d)) l (times (m * up e) (n * up d) A B (down e) (down d) h k)
-
-sum-most : (f : Format) (s : Bool) (a : ℕ) (t : Bool) (b c M : ℕ) → 0 < c → M < 2 ^ prec f → a + b ≤ M * c → AtMost M (sum f s a t b c)
-unfolding sum
-sum-most f s a t b c M C l h = go (Bool·beq s t) (ltb a b)
-  where
-    less : (a b N : ℕ) → a + b ≤ N → a - b ≤ N
-    less a b N h = omega arith
-
-    less' : (a b N : ℕ) → a + b ≤ N → b - a ≤ N
-    less' a b N h = omega arith
-
-    go : (u v : Bool) → AtMost M (cond u (round f s (a + b) c) (cond v (round f t (b - a) c) (round f (s && ltb b a) (a - b) c)))
-    go true v = round-most f s (a + b) c M C l h
-    go false true = round-most f t (b - a) c M C l (less' a b (M * c) h)
-    go false false = round-most f (s && ltb b a) (a - b) c M C l (less a b (M * c) h)
-
-plus : (x y A B p q : ℕ) → x ≤ A * p → y ≤ B * q → x * q + y * p ≤ (A + B) * (p * q)
-plus x y A B p q h k =
-    let a : x * q ≤ A * (p * q) = le-trans (mul-le-mul-right q h) (le-of-eq (mul-assoc A p q)) in
-    let b : y * p ≤ B * (p * q) = le-trans (mul-le-mul-right p k) (le-of-eq (mul-assoc B q p ∙ ap (λ (z : ℕ). B * z) (mul-comm q p))) in
-    omega arith
-
-pub add-most : (f : Format) (A B : ℕ) (x y : Float) → A + B < 2 ^ prec f → AtMost A x → AtMost B y → AtMost (A + B) (add f x y)
-unfolding add
-add-most f A B nan y l h k = h
-add-most f A B (inf s) y l h k = absurd h
-add-most f A B (fin s m e) nan l h k = k
-add-most f A B (fin s m e) (inf t) l h k = absurd k
-add-most f A B (fin s m e) (fin t n d) l h k =
-    sum-most f s (m * up e * down d) t (n * up d * down e) (down e * down d) (A + B) (mul-pos (down-pos e) (down-pos d)) l (plus (m * up e) (n * up d) A B (down e) (down d) h k)

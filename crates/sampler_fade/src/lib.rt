@@ -1,7 +1,8 @@
 // sampler_fade.rs: the fade's length, its two tables as constants, and the entry at a position. The Rust's
 // `Fade` owns a vector; here a table is a slice that the caller lends, and its length is F.
 ghost use mathlib.Core.Path.{_≡_};
-ghost use Prim.Native.Nat.{ℕ, _<_};
+ghost use mathlib.Core.Bool.{true, false, cond};
+ghost use Prim.Native.Nat.{ℕ, _<_, _≤_};
 ghost use lib.ListN.{length, getD};
 ghost use Rattle.timestamp.specs.Time.{fadeLength};
 ghost use Rattle.sampler_fade.specs.Bits.{bits48000, bits8000};
@@ -81,31 +82,42 @@ fn clean(x: f32) -> f32
     1.0
 }
 
-// The entry at a position, and 1.0 past the table.
-pub fn value(fade: &[f32], position: usize) -> f32
+// ---- the lookups, within the table, so that the voice's loops never test for its end. Of the entries past it, each
+// 1.0, the voice needs one, of a fade out at 0, and looks none up.
+
+// The entry at a position.
+fn value(fade: &[f32], position: usize) -> f32
+    requires { ⌜ position < length (now fade) ⌝ }
     ensures { λ r. ⌜ r ≡ fadeAt (now (fade .entry)) position ⌝ }
 {
-    if position < fade.len() {
-        clean(fade[position])
-    } else {
-        1.0
-    }
+    clean(fade[position])
 }
 
-pub fn fade_in_value(fade: &[f32], position: usize) -> f32
+fn fade_in_value(fade: &[f32], position: usize) -> f32
+    requires { ⌜ position < length (now fade) ⌝ }
     ensures { λ r. ⌜ r ≡ fadeIn (now (fade .entry)) position ⌝ }
 {
     value(fade, position)
 }
 
-// Past F the Rust's `len() - position` would overflow; here the difference ends at 0.
-pub fn fade_out_value(fade: &[f32], position: usize) -> f32
+fn fade_out_value(fade: &[f32], position: usize) -> f32
+    requires { ⌜ 0 < position ⌝ }
+    requires { ⌜ position ≤ length (now fade) ⌝ }
     ensures { λ r. ⌜ r ≡ fadeOut (now (fade .entry)) position ⌝ }
 {
-    let n = fade.len();
-    if position < n {
-        value(fade, n - position)
+    value(fade, fade.len() - position)
+}
+
+// The lookup that the voice calls: one loop serves both fades.
+pub fn fade_value(fade: &[f32], rising: bool, position: usize) -> f32
+    requires { ⌜ (rising ≡ true → position < length (now fade)) ⌝ }
+    requires { ⌜ (rising ≡ false → 0 < position) ⌝ }
+    requires { ⌜ position ≤ length (now fade) ⌝ }
+    ensures { λ r. ⌜ r ≡ cond rising (fadeIn (now (fade .entry)) position) (fadeOut (now (fade .entry)) position) ⌝ }
+{
+    if rising {
+        fade_in_value(fade, position)
     } else {
-        value(fade, 0)
+        fade_out_value(fade, position)
     }
 }

@@ -26,12 +26,11 @@ pub mod Trace
 pub mod Applied
 pub mod Sound
 -- How the code meets the definitions. Two: a player's two voices. Sized: sums of times that fit. Ends, Gap: E and the interval in whole numbers. Span: a loop in numbers.
--- Heard: what a piece asks of voices and channels. Turn: one turn of the piece loop. Counting: a segment's pieces count on from those before it.
+-- Turn: one turn of the piece loop. Counting: a segment's pieces count on from those before it.
 pub mod Two
 pub mod Sized
 pub mod Ends
 pub mod Gap
 pub mod Span
-pub mod Heard
 pub mod Turn
 pub mod Counting

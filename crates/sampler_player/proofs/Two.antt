@@ -1,23 +1,17 @@
--- A list of two is its two elements, and "Stop" and the start of a voice for a player with two of them.
+-- "Stop" and the start of a voice for a player with two of them.
 -- The idea: the definitions go over the list, which is known by its elements. Assumes nothing.
 use Prim.Native.Nat.{ℕ}
-use native.Mathlib.Omega.{arith}
 use mathlib.Core.Path.{_≡_, refl, ap, _∙_}
 use mathlib.Core.Bool.{Bool, true, false, cond}
 use mathlib.Core.List.{List, [], _∷_, map}
 use lib.ListN.{length, getD}
 use Rattle.sampler_voice.specs.declared.Voice.{Voice}
 use Rattle.sampler_voice.specs.Voices.{silent, isStopped, startedAt, endedVoice}
+use Rattle.sampler_voice.proofs.Two.{pair}
 use Rattle.sampler_player.specs.declared.Active.{Active}
 use Rattle.sampler_player.specs.declared.Active.the-variants.{Neither, Number}
 use Rattle.sampler_player.specs.declared.Player.{Player}
 use Rattle.sampler_player.specs.Assign.{voiced, stop, oneMore, firstStopped, startIn, begin}
-
-pub pair : {A : Type 0} (xs : List A) (d : A) → length xs ≡ 2 → xs ≡ getD xs 0 d ∷ getD xs 1 d ∷ []
-pair [] d h = absurd (omega arith)
-pair (x ∷ []) d h = absurd (omega arith)
-pair (x ∷ y ∷ []) d h = refl
-pair (x ∷ y ∷ z ∷ zs) d h = absurd (omega arith)
 
 module _ (p : Player) (two : length (p .voices) ≡ 2) where
   pub stop-two : stop p ≡ voiced (endedVoice (getD (p .voices) 0 silent) ∷ endedVoice (getD (p .voices) 1 silent) ∷ []) Neither p

@@ -1,14 +1,20 @@
--- One voice's limits, through Stop, a start and a frame: a frame less to come for each frame that was rendered.
--- The idea: a voice that sounds moves on by one frame, and one that is Stopped stays. Assumes nothing.
-use Prim.Native.Nat.{ℕ, suc, _+_, _^_, _≤_, _<_, max}
+-- One voice's limits, through Stop, a start and frames: a frame less to come for each frame that was rendered.
+-- The idea: a voice that sounds moves on by a frame a frame at most, and one that is Stopped stays (sampler_voice's Moves). Assumes nothing.
+use Prim.Native.Nat.{ℕ, _+_, _^_, _≤_}
 use native.Mathlib.Omega.{arith}
-use mathlib.Core.Path.{_≡_, refl}
-use mathlib.Core.Bool.{Bool, true, false, _&&_, _||_, cond}
-use borrow.Author.Tests.{lt-ltb, ltb-true, le-leb, leb-true}
-use lib.Dec.{ltb, leb, eqb}
+use mathlib.Core.Path.{_≡_, refl, sym, subst}
+use mathlib.Core.Bool.{Bool, true, false, _&&_, _||_}
+use mathlib.Core.List.{List}
+use borrow.Author.Tests.{le-leb, leb-true}
+use lib.Dec.{leb}
+use lib.ListN.{length}
+use lib.Ieee.{Float}
+use Rattle.sampler_voice.specs.declared.Channels.{Channels}
 use Rattle.sampler_voice.specs.declared.Phase.{Phase}
 use Rattle.sampler_voice.specs.declared.Phase.the-variants.{Stopped, FadingIn, Playing, FadingOut}
-use Rattle.sampler_voice.specs.Voices.{isStopped, fadeGood, startedAt, ended, settled, nextPhase, nextPosition}
+use Rattle.sampler_voice.specs.Voices.{isStopped, fadeGood, startedAt, ended, Heard, frames}
+use Rattle.sampler_voice.proofs.Phases.{started-fade, ended-fade, frames-fade}
+use Rattle.sampler_voice.proofs.Moves.{frames-moved, frames-still}
 use Rattle.laws.proofs.Tests.{both, one-of, other-of}
 
 -- one voice, at p in a phase, with x frames to come
@@ -40,68 +46,29 @@ pub fits-less : (x y : ℕ) (t : Bool) (p : ℕ) → y ≤ x → (t || leb (p + 
 fits-less x y true p l h = refl
 fits-less x y false p l h = let k = leb-true (p + x) (2 ^ 39 + 4096) h in le-leb (p + y) (2 ^ 39 + 4096) (omega (arith, k))
 
--- ---- fade positions
-first-fade : (F : ℕ) → ltb 0 (max F 1) ≡ true
-first-fade F = lt-ltb 0 (max F 1) (omega arith)
-
-within : (i F : ℕ) → ltb i F ≡ true → ltb i (max F 1) ≡ true
-within i F h = let k : i < F = ltb-true i F h in lt-ltb i (max F 1) (omega arith)
-
-in-fade : (F i : ℕ) (t : Bool) → ltb i F ≡ t → fadeGood F (cond t (FadingIn i) Playing) ≡ true
-in-fade F i true h = within i F h
-in-fade F i false h = refl
-
-out-fade : (F i : ℕ) (t : Bool) → ltb i F ≡ t → fadeGood F (cond t (FadingOut i) Stopped) ≡ true
-out-fade F i true h = within i F h
-out-fade F i false h = refl
-
-next-fade : (F : ℕ) (ph : Phase) → fadeGood F (nextPhase F ph) ≡ true
-unfolding nextPhase settled
-next-fade F Stopped = refl
-next-fade F (FadingIn i) = in-fade F (i + 1) (ltb (i + 1) F) refl
-next-fade F Playing = refl
-next-fade F (FadingOut i) = out-fade F (i + 1) (ltb (i + 1) F) refl
-
 -- ---- Stop, and a start
 pub ended-voiced : (F x : ℕ) (ph : Phase) (p : ℕ) → Voiced F x ph p → Voiced F x (ended ph) p
 ended-voiced F x Stopped p v = v
-ended-voiced F x (FadingIn i) p v = record { fade = first-fade F; most = v .most; fits = v .fits }
-ended-voiced F x Playing p v = record { fade = first-fade F; most = v .most; fits = v .fits }
+ended-voiced F x (FadingIn i) p v = record { fade = ended-fade F (FadingIn i) (v .fade); most = v .most; fits = v .fits }
+ended-voiced F x Playing p v = record { fade = ended-fade F Playing (v .fade); most = v .most; fits = v .fits }
 ended-voiced F x (FadingOut i) p v = v
-
-started-fade : (F : ℕ) (t : Bool) → fadeGood F (cond t Playing (FadingIn 0)) ≡ true
-started-fade F true = refl
-started-fade F false = first-fade F
 
 pub started-voiced : (F x u : ℕ) → x ≤ 4096 → u ≤ 2 ^ 39 → Voiced F x (startedAt u .phase) (startedAt u .position)
 started-voiced F x u l h =
-    record { fade = started-fade F (eqb u 0); most = omega arith; fits = fits-when x (isStopped (startedAt u .phase)) u (omega arith) }
+    record { fade = started-fade F u; most = omega arith; fits = fits-when x (isStopped (startedAt u .phase)) u (omega arith) }
 
--- ---- a frame
-sounding : (F x i p : ℕ) (t : Bool) → Fits x (FadingIn i) p → Fits x (cond t (FadingIn i) Playing) p
-sounding F x i p true f = f
-sounding F x i p false f = f
-
-ending : (F x i p : ℕ) (t : Bool) → Fits x (FadingOut i) p → Fits x (cond t (FadingOut i) Stopped) p
-ending F x i p true f = f
-ending F x i p false f = refl
-
-pub settled-fits : (F x : ℕ) (ph : Phase) (p : ℕ) → Fits x ph p → Fits x (settled F ph) p
-unfolding settled
-settled-fits F x Stopped p f = f
-settled-fits F x (FadingIn i) p f = sounding F x i p (ltb i F) f
-settled-fits F x Playing p f = f
-settled-fits F x (FadingOut i) p f = ending F x i p (ltb i F) f
-
-pub next-voiced : (F x : ℕ) (ph : Phase) (p : ℕ) → p ≤ 2 ^ 40 → Fits (suc x) ph p → Voiced F x (nextPhase F ph) (nextPosition ph p)
-unfolding nextPhase
-next-voiced F x Stopped p m f = record { fade = refl; most = m; fits = refl }
-next-voiced F x (FadingIn i) p m f =
-    let k = leb-true (p + suc x) (2 ^ 39 + 4096) f in
-    record { fade = next-fade F (FadingIn i); most = omega (arith, k); fits = fits-when x (isStopped (nextPhase F (FadingIn i))) (p + 1) (omega (arith, k)) }
-next-voiced F x Playing p m f =
-    let k = leb-true (p + suc x) (2 ^ 39 + 4096) f in
-    record { fade = refl; most = omega (arith, k); fits = fits-when x false (p + 1) (omega (arith, k)) }
-next-voiced F x (FadingOut i) p m f =
-    let k = leb-true (p + suc x) (2 ^ 39 + 4096) f in
-    record { fade = next-fade F (FadingOut i); most = omega (arith, k); fits = fits-when x (isStopped (nextPhase F (FadingOut i))) (p + 1) (omega (arith, k)) }
+-- ---- frames
+module _ (rec : List Float) (rn : ℕ) (fade : List Float) (n : ℕ) (ch : Channels) where
+  pub frames-voiced : (j k x : ℕ) (h : Heard) → Voiced (length fade) (k + x) (h .voice .phase) (h .voice .position)
+      → Voiced (length fade) x (frames rec rn fade n ch j k h .voice .phase) (frames rec rn fade n ch j k h .voice .position)
+  frames-voiced j k x h v = go (isStopped (h .voice .phase)) refl
+    where
+      go : (t : Bool) → isStopped (h .voice .phase) ≡ t → Voiced (length fade) x (frames rec rn fade n ch j k h .voice .phase) (frames rec rn fade n ch j k h .voice .position)
+      go true e =
+          subst (λ (g : Heard). Voiced (length fade) x (g .voice .phase) (g .voice .position)) (sym (frames-still rec rn fade n ch j k h e))
+          (record { fade = v .fade; most = v .most; fits = fits-less (k + x) x (isStopped (h .voice .phase)) (h .voice .position) (omega arith) (v .fits) })
+      go false e =
+          let g = frames rec rn fade n ch j k h .voice in
+          let l = leb-true (h .voice .position + (k + x)) (2 ^ 39 + 4096) (subst (λ (t : Bool). (t || leb (h .voice .position + (k + x)) (2 ^ 39 + 4096)) ≡ true) e (v .fits)) in
+          let m = frames-moved rec rn fade n ch j k h .1 in
+          record { fade = frames-fade rec rn fade n ch j k h (v .fade); most = omega (arith, l, m); fits = fits-when x (isStopped (g .phase)) (g .position) (omega (arith, l, m)) }

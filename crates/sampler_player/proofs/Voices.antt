@@ -1,24 +1,23 @@
 -- The voices' limits, `voicesKept`, through Stop, the start of a voice and frames, of any number of voices; and no position is near the end of 64 bits.
--- The idea: voice by voice (Voice), and frame by frame. Assumes nothing.
+-- The idea: voice by voice (Voice). Assumes nothing.
 use Prim.Native.Nat.{ℕ, zero, suc, _+_, _^_, _≤_}
-use native.Mathlib.Nat.{zero-add}
 use native.Mathlib.Omega.{arith}
-use mathlib.Core.Path.{_≡_, refl, subst}
-use mathlib.Core.Bool.{Bool, true, _&&_, _||_}
+use mathlib.Core.Path.{_≡_, refl}
+use mathlib.Core.Bool.{true, _&&_, _||_}
 use mathlib.Core.List.{List, [], _∷_, map}
 use lib.Dec.{leb}
 use lib.ListN.{length, getD, set}
 use lib.Ieee.{Float}
 use Rattle.sampler_voice.specs.declared.Channels.{Channels}
 use Rattle.sampler_voice.specs.declared.Voice.{Voice}
-use Rattle.sampler_voice.specs.Voices.{silent, isStopped, fadeGood, startedAt, endedVoice, settled, Heard, lent, frame, frames, mix}
+use Rattle.sampler_voice.specs.Voices.{silent, isStopped, fadeGood, startedAt, endedVoice, lent, frames, mix}
 use Rattle.sampler_voice.specs.inner.Room.{Ahead}
 use Rattle.sampler_player.specs.declared.Active.{Active}
 use Rattle.sampler_player.specs.declared.Active.the-variants.{Neither, Number}
 use Rattle.sampler_player.specs.Assign.{startIn}
 use Rattle.sampler_player.specs.inner.Kept.{voicesKept}
 use Rattle.laws.proofs.Tests.{both, one-of, other-of}
-use Rattle.sampler_player.proofs.Voice.{Voiced, voice-opened, voice-closed, fits-less, ended-voiced, started-voiced, settled-fits, next-voiced}
+use Rattle.sampler_player.proofs.Voice.{Voiced, voice-opened, voice-closed, fits-less, ended-voiced, started-voiced, frames-voiced}
 
 -- ---- the first, and the others
 parts : (F x : ℕ) (v : Voice) (vs : List Voice) → voicesKept F x (v ∷ vs) ≡ true → Voiced F x (v .phase) (v .position) × (voicesKept F x vs ≡ true)
@@ -60,18 +59,6 @@ pub voices-near : (F x k : ℕ) (vs : List Voice) → k ≤ 4096 → voicesKept 
 voices-near F x k vs l h i = let m = most F x vs i h in omega (arith, m)
 
 module _ (rec : List Float) (rn : ℕ) (fade : List Float) (n : ℕ) (ch : Channels) where
-  frames-voiced : (j k x : ℕ) (h : Heard) → Voiced (length fade) (k + x) (h .voice .phase) (h .voice .position)
-      → Voiced (length fade) x (frames rec rn fade n ch j k h .voice .phase) (frames rec rn fade n ch j k h .voice .position)
-  unfolding frames frame
-  frames-voiced j zero x h v = subst (λ (y : ℕ). Voiced (length fade) y (h .voice .phase) (h .voice .position)) (zero-add x) v
-  frames-voiced j (suc k) x h v =
-      let g = frames rec rn fade n ch j k h .voice in
-      let i = frames-voiced j k (suc x) h (subst (λ (y : ℕ). Voiced (length fade) y (h .voice .phase) (h .voice .position)) (on k x) v) in
-      next-voiced (length fade) x (settled (length fade) (g .phase)) (g .position) (i .most) (settled-fits (length fade) (suc x) (g .phase) (g .position) (i .fits))
-    where
-      on : (k x : ℕ) → suc k + x ≡ k + suc x
-      on k x = omega arith
-
   pub mix-voices : (j k x : ℕ) (vs : List Voice) (out : List Float) → voicesKept (length fade) (k + x) vs ≡ true
       → voicesKept (length fade) x (mix rec rn fade n ch j k vs out .voices) ≡ true
   unfolding mix
@@ -79,4 +66,4 @@ module _ (rec : List Float) (rn : ℕ) (fade : List Float) (n : ℕ) (ch : Chann
   mix-voices j k x (v ∷ vs) out h =
       let f = frames rec rn fade n ch j k (lent v out) in
       let p = parts (length fade) (k + x) v vs h in
-      whole (length fade) x (f .voice) (mix rec rn fade n ch j k vs (f .out) .voices) (frames-voiced j k x (lent v out) (p .0)) (mix-voices j k x vs (f .out) (p .1))
+      whole (length fade) x (f .voice) (mix rec rn fade n ch j k vs (f .out) .voices) (frames-voiced rec rn fade n ch j k x (lent v out) (p .0)) (mix-voices j k x vs (f .out) (p .1))

@@ -7,37 +7,22 @@ use mathlib.Core.List.{List, [], _∷_}
 use native.Mathlib.Omega.{arith}
 use native.Mathlib.Nat.{add-zero}
 use native.Mathlib.Numerals.{add-one}
-use lib.ListN.{length, getD}
 use lib.Ieee.{Float}
 use Rattle.sampler_voice.specs.declared.Channels.{Channels}
 use Rattle.sampler_voice.specs.declared.Voice.{Voice}
-use Rattle.sampler_voice.specs.Voices.{silent, Heard, Mixed, lent, lentAll, frame, frames, mix, perFrame}
+use Rattle.sampler_voice.specs.Voices.{Heard, Mixed, lent, lentAll, frame, frames, mix, perFrame}
 use Rattle.sampler_voice.proofs.Chunk.{frames-add}
-use Rattle.sampler_voice.proofs.Ways.{stopped}
 use Rattle.sampler_voice.proofs.Apart.{mix-apart, later-apart}
 
 module _ (rec : List Float) (rn : ℕ) (fade : List Float) (n : ℕ) (ch : Channels) where
   -- where a voice gets to doesn't depend on the output
-  pub same-voice : (j k : ℕ) (w : Voice) (out o : List Float) → frames rec rn fade n ch j k (lent w out) .voice ≡ frames rec rn fade n ch j k (lent w o) .voice
+  same-voice : (j k : ℕ) (w : Voice) (out o : List Float) → frames rec rn fade n ch j k (lent w out) .voice ≡ frames rec rn fade n ch j k (lent w o) .voice
   unfolding frames frame
   same-voice j zero w out o = refl
   same-voice j (suc k) w out o =
       ap (λ (v : Voice). frame rec rn fade n ch (j + k) (lent v o) .voice) (same-voice j k w out o)
 
-  -- each voice of a mix does its own frames
-  pub mix-voice : (j k : ℕ) (vs : List Voice) (out o : List Float) (i : ℕ)
-      → getD (mix rec rn fade n ch j k vs out .voices) i silent ≡ frames rec rn fade n ch j k (lent (getD vs i silent) o) .voice
-  unfolding mix
-  mix-voice j k [] out o i = sym (ap (λ (h : Heard). h .voice) (stopped rec rn fade n ch 0 j k o))
-  mix-voice j k (v ∷ vs) out o zero = same-voice j k v out o
-  mix-voice j k (v ∷ vs) out o (suc i) = mix-voice j k vs (frames rec rn fade n ch j k (lent v out) .out) o i
-
-  pub mix-length : (j k : ℕ) (vs : List Voice) (out : List Float) → length (mix rec rn fade n ch j k vs out .voices) ≡ length vs
-  unfolding mix
-  mix-length j k [] out = refl
-  mix-length j k (v ∷ vs) out = ap suc (mix-length j k vs (frames rec rn fade n ch j k (lent v out) .out))
-
-  pub mix-zero : (j : ℕ) (vs : List Voice) (out : List Float) → mix rec rn fade n ch j 0 vs out ≡ lentAll vs out
+  mix-zero : (j : ℕ) (vs : List Voice) (out : List Float) → mix rec rn fade n ch j 0 vs out ≡ lentAll vs out
   unfolding mix frames
   mix-zero j [] out = refl
   mix-zero j (v ∷ vs) out = ap (λ (m : Mixed). lentAll (v ∷ m .voices) (m .out)) (mix-zero j vs out)

@@ -1,20 +1,18 @@
 -- What starting, stopping and frames make of a phase: who holds, and that fade positions stay good.
 -- The idea: one frame at a time, by the phases; `settled` ends a fade before its position gets to F. Assumes nothing.
 use Prim.Native.Nat.{ℕ, zero, suc, _+_, _<_, max}
-use mathlib.Core.Path.{_≡_, refl, _∙_, ap}
+use mathlib.Core.Path.{_≡_, refl, _∙_}
 use mathlib.Core.Bool.{Bool, true, false, cond}
 use mathlib.Core.List.{List}
 use native.Mathlib.Omega.{arith}
 use lib.Dec.{ltb, eqb}
-use lib.ListN.{length, getD}
+use lib.ListN.{length}
 use lib.Ieee.{Float}
 use borrow.Author.Tests.{lt-ltb, ltb-true}
 use Rattle.sampler_voice.specs.declared.Channels.{Channels}
 use Rattle.sampler_voice.specs.declared.Phase.{Phase}
 use Rattle.sampler_voice.specs.declared.Phase.the-variants.{Stopped, FadingIn, Playing, FadingOut}
-use Rattle.sampler_voice.specs.declared.Voice.{Voice}
-use Rattle.sampler_voice.specs.Voices.{silent, isHeld, fadeGood, startedAt, ended, settled, nextPhase, Heard, lent, frame, frames, mix}
-use Rattle.sampler_voice.proofs.Mix.{mix-voice}
+use Rattle.sampler_voice.specs.Voices.{isHeld, fadeGood, startedAt, ended, settled, nextPhase, Heard, frame, frames}
 
 -- ---- starting and stopping
 first-fade : (F : ℕ) → ltb 0 (max F 1) ≡ true
@@ -109,14 +107,3 @@ module _ (rec : List Float) (rn : ℕ) (fade : List Float) (n : ℕ) (ch : Chann
   unfolding frames frame
   frames-fade j zero h g = g
   frames-fade j (suc k) h g = next-fade (length fade) (settled (length fade) (frames rec rn fade n ch j k h .voice .phase))
-
-  -- and of any number of voices
-  pub mix-held : (j k : ℕ) (vs : List Voice) (out : List Float) (i : ℕ)
-      → isHeld (getD (mix rec rn fade n ch j k vs out .voices) i silent .phase) ≡ isHeld (getD vs i silent .phase)
-  mix-held j k vs out i =
-      ap (λ (v : Voice). isHeld (v .phase)) (mix-voice rec rn fade n ch j k vs out out i) ∙ frames-held j k (lent (getD vs i silent) out)
-
-  pub mix-fade : (j k : ℕ) (vs : List Voice) (out : List Float) (i : ℕ) → fadeGood (length fade) (getD vs i silent .phase) ≡ true
-      → fadeGood (length fade) (getD (mix rec rn fade n ch j k vs out .voices) i silent .phase) ≡ true
-  mix-fade j k vs out i g =
-      ap (λ (v : Voice). fadeGood (length fade) (v .phase)) (mix-voice rec rn fade n ch j k vs out out i) ∙ frames-fade j k (lent (getD vs i silent) out) g

@@ -2,21 +2,19 @@
 -- The idea: within the recording a phase that isn't Stopped adds its pair. Assumes nothing.
 use Prim.Native.Nat.{ℕ, _+_, _<_}
 use mathlib.Core.Path.{_≡_, refl}
-use mathlib.Core.Bool.{Bool, true, false, true≢false}
+use mathlib.Core.Bool.{Bool, true, false, true≢false, cond}
 use mathlib.Core.List.{List}
-use native.Mathlib.Omega.{arith}
 use native.Mathlib.Numerals.{add-one}
-use lib.ListN.{length}
 use lib.Ieee.{Float}
 use borrow.Author.Tests.{lt-ltb}
-use Rattle.sampler_fade.specs.Entry.{fadeAt}
+use Rattle.sampler_fade.specs.Entry.{fadeIn, fadeOut}
 use Rattle.sampler_voice.specs.declared.Channels.{Channels}
 use Rattle.sampler_voice.specs.declared.Pair.{Pair}
 use Rattle.sampler_voice.specs.declared.Phase.{Phase}
 use Rattle.sampler_voice.specs.declared.Phase.the-variants.{Stopped, FadingIn, Playing, FadingOut}
 use Rattle.sampler_voice.specs.Sound.{fetched, scaled, added}
 use Rattle.sampler_voice.specs.Voices.{isStopped, faded, sounded}
-use Rattle.sampler_voice.specs.inner.Run.{later, fading, place, run}
+use Rattle.sampler_voice.specs.inner.Run.{later, fading, run}
 
 module _ (rec : List Float) (rn : ℕ) (fade : List Float) (n : ℕ) (ch : Channels) where
   pub adds : (ph : Phase) (p j : ℕ) (out : List Float) → p < rn → isStopped ph ≡ false
@@ -40,19 +38,14 @@ module _ (rec : List Float) (rn : ℕ) (fade : List Float) (n : ℕ) (ch : Chann
       → out′ ≡ run rec rn fade n ch ph p j (i + 1) out₀
   step ph p j i out₀ out out′ q l s a b e = cc (next ph p j i out₀ l s)
 
--- a fade sounds, and scales by its entry of the table
+-- a fade sounds, and scales by the entry that is looked up
 pub fading-sounds : (rising : Bool) (f i : ℕ) → isStopped (later i (fading rising f)) ≡ false
 unfolding later
 fading-sounds true f i = refl
 fading-sounds false f i = refl
 
 pub fading-scales : (fade : List Float) (rising : Bool) (f i : ℕ) (q : Pair)
-    → faded fade (later i (fading rising f)) q ≡ scaled (fadeAt fade (place rising (length fade) (f + i))) q
+    → faded fade (later i (fading rising f)) q ≡ scaled (cond rising (fadeIn fade (f + i)) (fadeOut fade (f + i))) q
 unfolding faded later
 fading-scales fade true f i q = refl
 fading-scales fade false f i q = refl
-
--- a fade's place is within the table
-pub placed : (rising : Bool) (F f i : ℕ) → f + i < F → (rising ≡ false → 0 < f) → place rising F (f + i) < F
-placed true F f i l z = omega arith
-placed false F f i l z = omega (arith, z refl)

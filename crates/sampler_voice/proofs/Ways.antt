@@ -17,7 +17,7 @@ use Rattle.sampler_voice.specs.Voices.{isStopped, settled, nextPhase, He
 use Rattle.sampler_voice.specs.inner.Run.{later, run}
 use Rattle.sampler_voice.proofs.Chunk.{movedBy, chunk, frames-add}
 
-is-stopped : (ph : Phase) → isStopped ph ≡ true → ph ≡ Stopped
+pub is-stopped : (ph : Phase) → isStopped ph ≡ true → ph ≡ Stopped
 is-stopped Stopped e = refl
 is-stopped (FadingIn i) e = absurd (false≢true e)
 is-stopped Playing e = absurd (false≢true e)

@@ -8,7 +8,6 @@ ghost use Rattle.sampler_voice.specs.inner.Room.{Room};
 ghost use Rattle.sampler_voice.specs.Voices.{silent, isStopped, startedAt, endedVoice, lent, lentAll, frames, mix};
 ghost use Rattle.sampler_voice.specs.inner.Room.{Ahead};
 
-mod fade;
 mod piece;
 mod sound;
 

@@ -7,12 +7,12 @@ ghost use lib.ListN.{length};
 ghost use Rattle.sampler_voice.specs.inner.Room.{Room};
 ghost use Rattle.sampler_voice.specs.Voices.{lent, heard, frames};
 ghost use Rattle.sampler_voice.specs.inner.Run.{fading, run, Reach};
-use super::fade::fade_value;
 use super::sound::fetch;
 use super::sound::put;
 use crate::Channels;
 use crate::Phase;
 use crate::Voice;
+use sampler_fade::fade_value;
 
 // k frames of a voice that plays, within the recording.
 fn play(

@@ -1,8 +1,9 @@
 -- `sampler_fade::value` meets its contract.
--- The idea: the two ways are the definition's entry inside the table, and past it. Assumes nothing.
+-- The idea: below the table's length the definition's 1.0 past the table isn't met (`inside`). Assumes nothing.
 use mathlib.Core.Path.{sym, _∙_}
+use denote.Ref.{now}
 use borrow.Author.Needs.{needs}
-use Rattle.sampler_fade.proofs.Entry.{inside, past}
+use Rattle.sampler_fade.proofs.Entry.{inside}
 use Rattle.sampler_fade.proofs.value.Statement.{statement}
 use Rattle.sampler_fade.proofs.value.Tie as tie
 
@@ -16,11 +17,10 @@ clean-requires : tie.Need-clean-requires
 clean-requires c κs = search needs
 
 returns : tie.Need-returns
-returns c = c .clean .ensures ∙ sym (inside _ _ (c .before .before .if1 .taken))
-
-returns-2 : tie.Need-returns-2
-returns-2 c = sym (past _ _ (c .if1 .left))
+returns c =
+    let s = c .before .before .before in
+    c .clean .ensures ∙ sym (inside (now (s .args .fade)) (s .args .position) (s .pre))
 
 pub value-spec : {M : Type 1} → statement M
 value-spec =
-    tie.close (tie.spec mul-clean shared-slice-read-clean clean-requires returns returns-2)
+    tie.close (tie.spec mul-clean shared-slice-read-clean clean-requires returns)

@@ -1,5 +1,5 @@
 -- What the loops do: frames that stay in one phase. Only inner functions' contracts cite this; proofs/Chunk says that it is `frames`. Definitions only.
-use Prim.Native.Nat.{ℕ, zero, suc, _+_, _-_, _<_, _≤_}
+use Prim.Native.Nat.{ℕ, zero, suc, _+_, _<_, _≤_}
 use mathlib.Core.Bool.{Bool, true, false}
 use mathlib.Core.List.{List}
 use lib.Ieee.{Float}
@@ -19,11 +19,6 @@ later k (FadingOut i) = FadingOut (i + k)
 abbrev pub fading : Bool → ℕ → Phase
 fading true i = FadingIn i
 fading false i = FadingOut i
-
--- its place in a table of F entries
-abbrev pub place : Bool → ℕ → ℕ → ℕ
-place true F i = i
-place false F i = F - i
 
 -- the output after k frames from j on of a voice that stays in one phase
 module _ (rec : List Float) (rn : ℕ) (fade : List Float) (n : ℕ) (ch : Channels) where

@@ -15,7 +15,7 @@ use Rattle.sampler_player.specs.inner.Lending.{ending}
 use Rattle.sampler_player.proofs.Kept.{opened, stands}
 use Rattle.sampler_player.proofs.Sized.{stands-size, sum-fits}
 use Rattle.sampler_player.proofs.Span.{T-size}
-use Rattle.sampler_player.proofs.Heard.{near}
+use Rattle.sampler_player.proofs.Voices.{voices-near}
 use borrow.Author.Needs.{needs}
 use Rattle.sampler_player.proofs.Player.process_voices.Statement.{statement}
 use Rattle.sampler_player.proofs.Player.process_voices.Tie as tie
@@ -28,7 +28,7 @@ render-requires c κs = let s = c .before .before .before .before .before in
     let a = s .args in
     let r = s .pre .0 in (
       (r .one-out, le-of-eq (sym (r .out))),
-      ((r .one, le-of-eq (sym (r .recording))), (s .pre .1 .0, near (a .setup .fade) (a .n) (a .self .voices) (few s) (opened (a .setup) (a .n) (a .self) (s .pre .1 .1) .voices))),
+      ((r .one, le-of-eq (sym (r .recording))), (s .pre .1 .0, voices-near (a .setup .fade) (a .n) (a .n) (a .self .voices) (few s) (opened (a .setup) (a .n) (a .self) (s .pre .1 .1) .voices))),
     )
 
 time-of-requires : tie.Need-time-of-requires

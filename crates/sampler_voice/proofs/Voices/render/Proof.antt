@@ -9,6 +9,7 @@ use lib.ListN.{length, length-map, getD}
 use Rattle.sampler_voice.specs.declared.Voice.{Voice}
 use Rattle.sampler_voice.specs.Voices.{Heard, lent, lentAll, silent, frames, mix}
 use Rattle.sampler_voice.proofs.Room as Room
+use Rattle.sampler_voice.proofs.Two.{pair}
 use Rattle.sampler_voice.proofs.Ways.{both-stay}
 use borrow.Author.Needs.{needs}
 use Rattle.sampler_voice.proofs.Voices.render.Statement.{statement}
@@ -41,13 +42,6 @@ render-requires-2 c κs =
 
 same-length : tie.Need-same-length
 same-length c = search needs
-
--- a list of two is its two elements
-pair : (vs : List Voice) (d : Voice) → length vs ≡ 2 → vs ≡ getD vs 0 d ∷ getD vs 1 d ∷ []
-pair [] d h = absurd (omega arith)
-pair (v ∷ []) d h = absurd (omega arith)
-pair (v ∷ w ∷ []) d h = refl
-pair (v ∷ w ∷ x ∷ xs) d h = absurd (omega arith)
 
 returns : tie.Need-returns
 returns c =

@@ -9,7 +9,7 @@ use Rattle.sampler_voice.specs.Sound.{fetched}
 use Rattle.sampler_voice.specs.Voices.{faded}
 use Rattle.sampler_voice.specs.inner.Run.{later, fading, run}
 use Rattle.sampler_voice.proofs.Room as Room
-use Rattle.sampler_voice.proofs.Step.{step, placed, fading-sounds, fading-scales}
+use Rattle.sampler_voice.proofs.Step.{step, fading-sounds, fading-scales}
 use Rattle.sampler_voice.proofs.piece.fade_along.Statement.{statement}
 use Rattle.sampler_voice.proofs.piece.fade_along.Tie as tie
 
@@ -30,7 +30,7 @@ add-fade-value c = omega arith
 fade-value-requires : tie.Need-fade-value-requires Inv-loop μ-loop
 fade-value-requires c κs =
     let s = c .before .before .before .before .before in
-    (omega arith, placed (s .args .rising) (length (now (s .args .fade))) (s .args .f) (c .before .loop .i) (omega arith) (s .pre .1 .1 .1 .1 .1))
+    ((λ e. omega arith), ((λ e. omega (arith, s .pre .1 .1 .1 .1 .1 e)), omega arith))
 
 add-put : tie.Need-add-put Inv-loop μ-loop
 add-put c = omega arith
