@@ -3,12 +3,13 @@
 use mathlib.Core.Path.{_≡_, refl, sym, ap, _∙_}
 use mathlib.Core.Logic.{inl, inr}
 use mathlib.Core.List.{List, [], _∷_, _++_}
-use Prim.Native.Nat.{ℕ, suc, _+_, _*_, _-_, _/_, _%_, _^_, _≤_, _<_, min}
-use native.Mathlib.Nat.{le-trans, eq-or-lt-of-le}
+use Prim.Native.Nat.{ℕ, zero, suc, _+_, _*_, _-_, _/_, _%_, _^_, _≤_, _<_, min}
+use native.Mathlib.Nat.{le-trans, eq-or-lt-of-le, pow-suc}
 use native.Mathlib.Numerals.{add-one}
 use native.Mathlib.Omega.{arith}
 use lib.ListN.{length, take, drop, getD, set, length-drop}
 use lib.Seq.{take-suc, take-all, getD-drop, set-out, sets}
+use Rattle.sampler_event.specs.Record.{little}
 use Rattle.words.specs.Digits.{digitOf, hexFrom, hexOf, bytesOf}
 
 behind : (n : ℕ) (s : List ℕ) (b : ℕ) → hexFrom n (s ++ (b ∷ [])) ≡ hexFrom n s * 16 + digitOf b
@@ -56,3 +57,16 @@ all-bytes s at n i left h k = elim (eq-or-lt-of-le k) [
   | inl e ↦ let z : n - i ≡ 0 = omega arith in rw z refl
   | inr g ↦ sym (sets-out s (at + i) (bytesOf (n - i) left) (omega arith))
 ]
+
+pub length-bytes : (n u : ℕ) → length (bytesOf n u) ≡ n
+length-bytes zero u = refl
+length-bytes (suc n) u = ap suc (length-bytes n (u / 256))
+
+-- the number of a number's bytes, where they are enough
+pub little-bytes : (n u : ℕ) → u < 256 ^ n → little (bytesOf n u) ≡ u
+little-bytes zero u h = omega arith
+little-bytes (suc n) u h =
+    let e = pow-suc 256 n in
+    let l : u / 256 < 256 ^ n = omega arith in
+    let r = little-bytes n (u / 256) l in
+    omega arith

@@ -1,11 +1,11 @@
 // Signed numbers and floats as the bits that a file has for them, and numbers as hex digits and bytes.
 // The bits as a signed number are `sampler_event::as_i64`.
 ghost use mathlib.Core.Path.{_≡_};
-ghost use Prim.Native.Nat.{_-_, _%_, _^_, _<_, min};
+ghost use Prim.Native.Nat.{_-_, _%_, _^_, _≤_, _<_, min};
 ghost use lib.Ieee.{binary32, binary64, ofBits, toBits};
 ghost use lib.ListN.{take, drop};
 ghost use lib.Seq.{sets};
-ghost use Rattle.sampler_event.specs.Record.{asI64};
+ghost use Rattle.sampler_event.specs.Record.{little, asI64};
 ghost use Rattle.words.specs.Digits.{digitOf, hexOf, bytesOf};
 
 // Two's complement.
@@ -119,4 +119,25 @@ pub fn put(bytes: &mut [u8], at: usize, n: usize, number: u64)
         left = left / 256;
         i += 1;
     }
+}
+
+// A byte in 64 bits.
+fn wide(byte: u8) -> u64
+    ensures { λ r. ⌜ r ≡ byte ⌝ ∗ ⌜ r < 256 ⌝ }
+{
+    byte as u64
+}
+
+// The number of n bytes from `at` on, the lowest first. Past the end there is none.
+pub fn number(bytes: &[u8], at: usize, n: usize) -> u64
+    requires { ⌜ n ≤ 8 ⌝ }
+    ensures { λ r. ⌜ r ≡ little (take n (drop at (now (bytes .entry)))) ⌝ ∗ ⌜ r < 256 ^ n ⌝ }
+{
+    let mut number: u64 = 0;
+    let mut i = room(bytes.len(), at, n);
+    while 0 < i {
+        i -= 1;
+        number = number * 256 + wide(bytes[at + i]);
+    }
+    number
 }
