@@ -4,7 +4,7 @@ use mathlib.Core.Path.{_≡_, refl, sym, ap, _∙_}
 use mathlib.Core.List.{List}
 use mathlib.Core.Bool.{Bool, true, false}
 use mathlib.Core.Logic.{_⊎_, inl, inr}
-use Prim.Native.Nat.{ℕ, _+_, _-_, _%_, _^_, _≤_, _<_, min}
+use Prim.Native.Nat.{ℕ, _+_, _-_, _≤_, _<_, min}
 use native.Mathlib.Nat.{zero-add, le-refl}
 use native.Mathlib.Omega.{arith}
 use lib.Dec.{leb}
@@ -12,7 +12,7 @@ use lib.ListN.{length, take, drop, length-drop, drop-of-length-le}
 use lib.Seq.{take-take, paste, take-paste}
 use borrow.Author.Tests.{leb-true, leb-false}
 use Rattle.buffered.specs.declared.input.Input.{Input}
-use Rattle.buffered.specs.Input.{held, heldBytes, place, Filled}
+use Rattle.buffered.specs.Input.{held, place, Filled}
 
 pub none : {a b : ℕ} → a < b → b ≤ a → ⊥
 none h l = omega arith

@@ -14,7 +14,6 @@ use Rattle.sampler_voice.specs.declared.Phase.{Phase}
 use Rattle.sampler_voice.specs.declared.Phase.the-variants.{Stopped, FadingIn, Playing, FadingOut}
 use Rattle.sampler_player.specs.declared.Active.{Active}
 use Rattle.sampler_player.specs.declared.Active.the-variants.{Neither, Number}
-use Rattle.sampler_player.specs.declared.Points.{Points}
 use Rattle.sampler_player.specs.declared.Points.the-variants.{Absent, Between}
 use Rattle.sampler_player.specs.declared.Setup.{Setup}
 use Rattle.leg_bytes.specs.declared.reading.VoiceRead.{VoiceRead}

@@ -1,6 +1,6 @@
 -- A leg in bytes, field by field in the order of docs/TRIAL.md. Definitions only.
 use Prim.Native.Nat.{ℕ, zero, suc, _+_, _-_, _%_, _^_}
-use mathlib.Core.Bool.{Bool, cond}
+use mathlib.Core.Bool.{cond}
 use mathlib.Core.List.{List, [], _++_}
 use lib.Dec.{ltb}
 use lib.IntN.{ℤ, pos, negsuc}
@@ -8,7 +8,6 @@ use lib.ListN.{getD}
 use Rattle.timestamp.specs.declared.Timestamp.{Timestamp}
 use Rattle.sampler_event.specs.declared.Kind.{Kind}
 use Rattle.sampler_event.specs.declared.Kind.the-variants.{Start, StartImmediate, Stop, EnableLoop, CancelLoop, CancelAll}
-use Rattle.sampler_event.specs.declared.Event.{Event}
 use Rattle.sampler_event.specs.declared.Record.{Record}
 use Rattle.sampler_event.specs.Events.{blankEvent}
 use Rattle.event_processor.specs.declared.Queue.{Queue}

@@ -1,119 +1,62 @@
 // Drives a leg from a file (docs/TRIAL.md): reads trials from standard input until it ends, and writes what
 // the leg answered. A malformed one ends the program with a line on standard error.
-mod input;
-mod leg_bytes;
-mod output;
+mod at;
 mod run;
 mod steps;
 
-use input::Input;
-use input::on;
+use at::At;
+use buffered::input;
+use buffered::input::Input;
+use buffered::output;
 use libc::STDERR_FILENO;
-use output::Output;
 use sampler_processor::Leg;
-use steps::After;
-
-// Whether there may be more, and where reading and writing stand.
-pub struct Stand {
-    pub more: bool,
-    pub input: Input,
-    pub output: Output,
-}
-
-fn stopped(input: Input, output: Output) -> Stand {
-    Stand {
-        more: false,
-        input,
-        output,
-    }
-}
-
-fn malformed(what: &[u8], at: u64) {
-    io::write_all(STDERR_FILENO, b"malformed ");
-    io::write_all(STDERR_FILENO, what);
-    io::write_all(STDERR_FILENO, b" at byte ");
-    io::print_decimal(STDERR_FILENO, at);
-    io::write_all(STDERR_FILENO, b"\n");
-}
 
 // ---- a trial's head
 
-// What a trial's first 30 bytes say.
+// What a trial's first 30 bytes say, but for the output's channels; and whether they are all there, with the mark.
 struct Head {
-    mark: u64,
+    known: bool,
     rate: usize,
     frames: usize,
     fade: usize,
     channels: usize,
-    heard: usize,
     a: usize,
     b: usize,
     steps: u64,
 }
 
-fn head_at(source: &[u8; 65536], at: usize) -> Head {
+fn head_at(source: &[u8; 65536], at: Input) -> Head {
+    // the bytes TRL1
+    let marked = input::number(source, at, 0, 4) == 0x314c5254;
     Head {
-        mark: input::number(source, at, 4),
-        rate: input::count(source, on(at, 4), 4),
-        frames: input::count(source, on(at, 8), 4),
-        fade: input::count(source, on(at, 12), 4),
-        channels: input::count(source, on(at, 16), 1),
-        heard: input::count(source, on(at, 17), 1),
-        a: input::count(source, on(at, 18), 4),
-        b: input::count(source, on(at, 22), 4),
-        steps: input::number(source, on(at, 26), 4),
+        known: input::holds(at, 30) & marked,
+        rate: input::count(source, at, 4, 4),
+        frames: input::count(source, at, 8, 4),
+        fade: input::count(source, at, 12, 4),
+        channels: input::count(source, at, 16, 1),
+        a: input::count(source, at, 18, 4),
+        b: input::count(source, at, 22, 4),
+        steps: input::number(source, at, 26, 4),
     }
 }
 
 // ---- its steps
 
-// The next step.
-fn step(
-    source: &mut [u8; 65536],
-    sink: &mut [u8; 65536],
-    at: After,
-    rec: &[f32],
-    table: &[f32],
-    channels: usize,
-    entries: &mut [f32],
-) -> After {
-    let input = at.input;
-    let output = at.output;
-    let leg = at.leg;
-    let begins = input::offset(input);
-    let after = steps::step(
-        source,
-        sink,
-        input,
-        output,
-        leg,
-        rec,
-        table,
-        channels,
-        entries,
-    );
-    if !after.good {
-        malformed(b"step", begins);
-    }
-    after
-}
-
 fn run_steps(
     source: &mut [u8; 65536],
     sink: &mut [u8; 65536],
-    from: After,
     rec: &[f32],
     table: &[f32],
-    channels: usize,
     entries: &mut [f32],
+    made: At,
     steps: u64,
-) -> After {
-    let mut at = from;
+) -> At {
+    let mut at = made;
     let mut left = steps;
     while 0 < left {
         left -= 1;
-        at = step(source, sink, at, rec, table, channels, entries);
-        if !at.good {
+        at = steps::step(source, sink, rec, table, entries, at);
+        if !at.more {
             break;
         }
     }
@@ -124,118 +67,106 @@ fn run_steps(
 fn make(
     source: &mut [u8; 65536],
     sink: &mut [u8; 65536],
-    from: Input,
-    to: Output,
-    head: Head,
     rec: &[f32],
     table: &[f32],
     entries: &mut [f32],
-) -> Stand {
+    at: At,
+    head: Head,
+) -> At {
     let answer = Leg::make(head.rate, head.channels, head.frames, head.fade);
     let leg = answer.leg;
-    let numbered = output::put(sink, to, 1, answer.number as u64);
-    let made = After {
-        good: true,
-        input: from,
-        output: numbered,
-        leg,
-    };
-    let after = run_steps(
-        source,
-        sink,
-        made,
-        rec,
-        table,
-        head.heard,
-        entries,
-        head.steps,
-    );
-    let input = after.input;
-    let output = after.output;
-    Stand {
-        more: after.good,
-        input,
-        output,
-    }
+    let before = at.output;
+    let numbered = output::put(sink, before, 1, answer.number as u64);
+    run_steps(source, sink, rec, table, entries, at::answered(at, numbered, leg), head.steps)
 }
 
 // Recording and table are read, and the leg is made.
 fn lend(
     source: &mut [u8; 65536],
     sink: &mut [u8; 65536],
-    from: Input,
-    to: Output,
-    head: Head,
     rec: &mut [f32],
     table: &mut [f32],
     entries: &mut [f32],
-    begins: u64,
-) -> Stand {
+    at: At,
+    head: Head,
+) -> At {
+    let from = at.input;
     let first = input::read_floats(source, from, rec);
     let then = first.input;
     let second = input::read_floats(source, then, table);
-    let input = second.input;
+    let next = second.input;
     if !(first.whole & second.whole) {
-        malformed(b"trial", begins);
-        return stopped(input, to);
+        return at::ended(at, 1, at.begins);
     }
-    make(source, sink, input, to, head, rec, table, entries)
+    make(source, sink, rec, table, entries, at::read(at, next), head)
 }
 
+// The next trial, where there is one.
 fn trial(
     source: &mut [u8; 65536],
     sink: &mut [u8; 65536],
-    from: Input,
-    to: Output,
     rec: &mut [f32],
     table: &mut [f32],
     entries: &mut [f32],
-) -> Stand {
+    at: At,
+) -> At {
+    let from = at.input;
     let start = input::filled(source, from, 1);
     if !input::holds(start, 1) {
-        return stopped(start, to);
+        return at::ended(at, 0, 0);
     }
-    let begins = input::offset(start);
+    let begun = at::begun(at, start);
     let whole = input::filled(source, start, 30);
-    let head = head_at(source, whole.at);
+    let head = head_at(source, whole);
     let a = head.a;
     let b = head.b;
-    // the bytes TRL1
-    let known = input::holds(whole, 30) & (head.mark == 0x314c5254);
-    if known {
+    if head.known {
         if a <= rec.len() {
             if b <= table.len() {
-                let next = input::passed(whole, 30);
-                return lend(
-                    source,
-                    sink,
-                    next,
-                    to,
-                    head,
-                    &mut rec[..a],
-                    &mut table[..b],
-                    entries,
-                    begins,
-                );
+                let heard = input::count(source, whole, 17, 1);
+                let next = at::heard(begun, input::passed(whole, 30), heard);
+                return lend(source, sink, &mut rec[..a], &mut table[..b], entries, next, head);
             }
         }
     }
-    malformed(b"trial", begins);
-    stopped(whole, to)
+    at::ended(begun, 1, begun.begins)
 }
 
-// The next trial; the arrays' lengths are TRIAL.md's limits.
+// The arrays' lengths are TRIAL.md's limits.
 fn next(
     source: &mut [u8; 65536],
     sink: &mut [u8; 65536],
-    at: Stand,
     rec: &mut [f32; 524288],
     table: &mut [f32; 8192],
     entries: &mut [f32; 16384],
-) -> Stand {
-    let input = at.input;
-    let output = at.output;
-    trial(source, sink, input, output, rec, table, entries)
+    at: At,
+) -> At {
+    trial(source, sink, rec, table, entries, at)
+}
+
+// ---- the end
+
+fn malformed(what: &[u8], at: u64) {
+    io::write_all(STDERR_FILENO, b"malformed ");
+    io::write_all(STDERR_FILENO, what);
+    io::write_all(STDERR_FILENO, b" at byte ");
+    io::print_decimal(STDERR_FILENO, at);
+    io::write_all(STDERR_FILENO, b"\n");
+}
+
+// What is left is written, and what went wrong said.
+fn end(sink: &[u8; 65536], at: At) {
+    if at.fault == 1 {
+        malformed(b"trial", at.begins);
+    }
+    if at.fault == 2 {
+        malformed(b"step", at.begins);
+    }
+    let before = at.output;
+    let last = output::flushed(sink, before);
+    if !last.taken {
+        io::write_all(STDERR_FILENO, b"the answers could not be written\n");
+    }
 }
 
 fn main() {
@@ -244,37 +175,15 @@ fn main() {
     let mut rec = [0.0f32; 524288];
     let mut table = [0.0f32; 8192];
     let mut entries = [0.0f32; 16384];
-    let mut at = Stand {
-        more: true,
-        input: Input {
-            at: 0,
-            end: 0,
-            gone: 0,
-        },
-        output: Output {
-            held: 0,
-            open: true,
-        },
-    };
+    let mut at = at::start();
     // a limit, since every loop ends
     let mut left: u64 = 0x7fff_ffff_ffff_ffff;
     while 0 < left {
         left -= 1;
-        at = next(
-            &mut source,
-            &mut sink,
-            at,
-            &mut rec,
-            &mut table,
-            &mut entries,
-        );
+        at = next(&mut source, &mut sink, &mut rec, &mut table, &mut entries, at);
         if !at.more {
             break;
         }
     }
-    let output = at.output;
-    let last = output::flushed(&sink, output);
-    if !last.open {
-        io::write_all(STDERR_FILENO, b"the answers could not be written\n");
-    }
+    end(&sink, at);
 }

@@ -1,4 +1,5 @@
 // Step 4's blocks: each over zeros, each T(frames) after the one before.
+use buffered::input::Input;
 use sampler_processor::Leg;
 use sampler_processor::RenderAnswer;
 use timestamp::Timestamp;
@@ -6,6 +7,16 @@ ghost use Prim.Native.Nat.{_≤_, _<_, _^_};
 ghost use lib.ListN.{length};
 ghost use Rattle.laws.proofs.NoNan.{Number};
 ghost use Rattle.sampler_voice.proofs.NoNan.{Numbers};
+
+// What a step asks of blocks: whether it is all there, and what follows it; the first one's start, the frames of
+// each, and how many there are or, of one, how many entries.
+pub struct Asked {
+    pub good: bool,
+    pub input: Input,
+    pub start: Timestamp,
+    pub frames: usize,
+    pub count: usize,
+}
 
 // The number of the last block; the blocks rendered, their pieces, and the sum of their entries' bits.
 pub struct Blocks {
@@ -70,7 +81,7 @@ fn later(start: Timestamp, by: Timestamp) -> Timestamp {
 }
 
 // The blocks that are to come: none after a refusal.
-fn to_come(left: u64, number: u8) -> u64
+fn to_come(left: usize, number: u8) -> usize
     ensures { λ r. ⌜ r ≤ left ⌝ }
 {
     if number == 0 { left } else { 0 }
@@ -81,24 +92,23 @@ pub fn run(
     rec: &[f32],
     table: &[f32],
     channels: usize,
-    block: usize,
     entries: &mut [f32],
-    start: Timestamp,
-    count: u64,
+    asked: Asked,
 ) -> Blocks
     requires { ⌜ length (now entries) ≤ 65536 ⌝ }
 {
+    let block = asked.frames;
     let by = block_time(leg, block);
     let mut last = RenderAnswer {
         number: 0,
         leg,
         pieces: 0,
     };
-    let mut at = start;
+    let mut at = asked.start;
     let mut blocks: u64 = 0;
     let mut pieces: u64 = 0;
     let mut sum: u64 = 0;
-    let mut left = count;
+    let mut left = asked.count;
     while 0 < left {
         clear(entries);
         let current = last.leg;

@@ -5,10 +5,13 @@ use Rattle.trial.proofs.main.Statement.{statement}
 use Rattle.trial.proofs.main.Tie as tie
 
 abbrev Inv-loop : tie.InvT-loop
-Inv-loop source₀ sink₀ rec₀ table₀ entries₀ at₀ left₀ t10 source sink rec table entries at left = Unit {0}
+Inv-loop source₀ sink₀ rec₀ table₀ entries₀ at₀ left₀ source sink rec table entries at left = Unit {0}
 
 abbrev μ-loop : tie.MeasureT-loop
-μ-loop source₀ sink₀ rec₀ table₀ entries₀ at₀ left₀ t10 source sink rec table entries at left = left
+μ-loop source₀ sink₀ rec₀ table₀ entries₀ at₀ left₀ source sink rec table entries at left = left
+
+start-requires : tie.Need-start-requires Inv-loop μ-loop
+start-requires c κs = search needs
 
 loop-holds : tie.Need-loop-holds Inv-loop μ-loop
 loop-holds c = search needs
@@ -25,20 +28,11 @@ loop-less c = search needs
 loop-again : tie.Need-loop-again Inv-loop μ-loop
 loop-again c = search needs
 
-flushed-requires : tie.Need-flushed-requires Inv-loop μ-loop
-flushed-requires c κs = search needs
-
-slice-aggregate-write-all : tie.Need-slice-aggregate-write-all Inv-loop μ-loop
-slice-aggregate-write-all c = search needs
-
-write-all-requires : tie.Need-write-all-requires Inv-loop μ-loop
-write-all-requires c κs = search needs
+end-requires : tie.Need-end-requires Inv-loop μ-loop
+end-requires c κs = search needs
 
 returns : tie.Need-returns Inv-loop μ-loop
 returns c = search needs
-
-returns-2 : tie.Need-returns-2 Inv-loop μ-loop
-returns-2 c = search needs
 
 pub main-spec : {M : Type 1} → statement M
 main-spec =
@@ -46,13 +40,11 @@ main-spec =
     (tie.spec
     Inv-loop
     μ-loop
+    start-requires
     loop-holds
     sub-left
     next-requires
     loop-less
     loop-again
-    flushed-requires
-    slice-aggregate-write-all
-    write-all-requires
-    returns
-    returns-2)
+    end-requires
+    returns)

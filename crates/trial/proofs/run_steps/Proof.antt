@@ -7,10 +7,10 @@ use Rattle.trial.proofs.run_steps.Statement.{statement}
 use Rattle.trial.proofs.run_steps.Tie as tie
 
 abbrev Inv-loop : tie.InvT-loop
-Inv-loop source₀ sink₀ rec table channels entries₀ steps at₀ left₀ source sink entries at left = length entries ≡ length entries₀
+Inv-loop source₀ sink₀ rec table entries₀ steps at₀ left₀ source sink entries at left = length entries ≡ length entries₀
 
 abbrev μ-loop : tie.MeasureT-loop
-μ-loop source₀ sink₀ rec table channels entries₀ steps at₀ left₀ source sink entries at left = left
+μ-loop source₀ sink₀ rec table entries₀ steps at₀ left₀ source sink entries at left = left
 
 loop-holds : tie.Need-loop-holds Inv-loop μ-loop
 loop-holds c = search needs

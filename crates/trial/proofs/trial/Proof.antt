@@ -12,14 +12,14 @@ filled-requires c κs = search needs
 holds-requires : tie.Need-holds-requires
 holds-requires c κs = search needs
 
-stopped-requires : tie.Need-stopped-requires
-stopped-requires c κs = search needs
+ended-requires : tie.Need-ended-requires
+ended-requires c κs = search needs
 
 returns : tie.Need-returns
 returns c = search needs
 
-offset-requires : tie.Need-offset-requires
-offset-requires c κs = search needs
+begun-requires : tie.Need-begun-requires
+begun-requires c κs = search needs
 
 filled-requires-2 : tie.Need-filled-requires-2
 filled-requires-2 c κs = search needs
@@ -27,11 +27,14 @@ filled-requires-2 c κs = search needs
 head-at-requires : tie.Need-head-at-requires
 head-at-requires c κs = search needs
 
-holds-requires-2 : tie.Need-holds-requires-2
-holds-requires-2 c κs = search needs
+count-requires : tie.Need-count-requires
+count-requires c κs = search needs
 
 passed-requires : tie.Need-passed-requires
 passed-requires c κs = search needs
+
+heard-requires : tie.Need-heard-requires
+heard-requires c κs = search needs
 
 slice-relend-prefix-lend : tie.Need-slice-relend-prefix-lend
 slice-relend-prefix-lend c = search needs
@@ -60,14 +63,8 @@ same-length-3 c = search needs
 returns-2 : tie.Need-returns-2
 returns-2 c = search needs
 
-slice-aggregate-malformed : tie.Need-slice-aggregate-malformed
-slice-aggregate-malformed c = search needs
-
-malformed-requires : tie.Need-malformed-requires
-malformed-requires c κs = search needs
-
-stopped-requires-2 : tie.Need-stopped-requires-2
-stopped-requires-2 c κs = search needs
+ended-requires-2 : tie.Need-ended-requires-2
+ended-requires-2 c κs = search needs
 
 returns-3 : tie.Need-returns-3
 returns-3 c = search needs
@@ -78,13 +75,14 @@ trial-spec =
     (tie.spec
     filled-requires
     holds-requires
-    stopped-requires
+    ended-requires
     returns
-    offset-requires
+    begun-requires
     filled-requires-2
     head-at-requires
-    holds-requires-2
+    count-requires
     passed-requires
+    heard-requires
     slice-relend-prefix-lend
     slice-aggregate-lend
     slice-relend-prefix-lend-2
@@ -94,7 +92,5 @@ trial-spec =
     same-length-2
     same-length-3
     returns-2
-    slice-aggregate-malformed
-    malformed-requires
-    stopped-requires-2
+    ended-requires-2
     returns-3)

@@ -1,6 +1,6 @@
 -- `buffered::input::filled` meets its contract.
 -- The idea: where the bytes are not held, those that are go to the front, and the read leaves them there (Refill). Assumes nothing.
-use mathlib.Core.Path.{_≡_, refl, sym, ap, _∙_}
+use mathlib.Core.Path.{sym, ap, _∙_}
 use native.Mathlib.Omega.{arith}
 use borrow.Author.Tests.{leb-true, leb-false}
 use Rattle.buffered.specs.Input.{held}
@@ -8,7 +8,6 @@ use Rattle.buffered.proofs.Refill.{as-it-is, refilled}
 use mathlib.Core.List.{List}
 use Prim.Native.Nat.{ℕ}
 use lib.ListN.{take}
-use borrow.Author.Needs.{needs}
 use borrow.Author.Needs.{needs}
 use Rattle.buffered.proofs.input.filled.Statement.{statement}
 use Rattle.buffered.proofs.input.filled.Tie as tie

@@ -2,7 +2,6 @@
 -- The idea: it is the test, of what `held` answers. Assumes nothing.
 use mathlib.Core.Path.{refl}
 use borrow.Author.Needs.{needs}
-use borrow.Author.Needs.{needs}
 use Rattle.buffered.proofs.input.holds.Statement.{statement}
 use Rattle.buffered.proofs.input.holds.Tie as tie
 

@@ -1,10 +1,10 @@
 -- `buffered::input::move_down` meets its contract.
 -- The idea: after i turns i bytes are moved, and behind them all is as it was. The measure is the bytes left. Assumes nothing.
-use mathlib.Core.Path.{_≡_, refl, sym, ap, _∙_}
-use Prim.Native.Nat.{_+_, _-_, _≤_}
+use mathlib.Core.Path.{_≡_, refl}
+use Prim.Native.Nat.{_-_, _≤_}
 use native.Mathlib.Omega.{arith}
 use lib.ListN.{length, drop}
-use lib.Seq.{paste, paste-zero, length-paste}
+use lib.Seq.{paste, paste-zero}
 use Rattle.buffered.proofs.Moves.{move-more}
 use lib.ListN.{length-set}
 use borrow.Author.Needs.{needs}

@@ -1,7 +1,6 @@
 -- `buffered::input::number` meets its contract.
 -- The idea: it is `words::number`, at the place that the sum is. Assumes nothing.
 use borrow.Author.Needs.{needs}
-use borrow.Author.Needs.{needs}
 use Rattle.buffered.proofs.input.number.Statement.{statement}
 use Rattle.buffered.proofs.input.number.Tie as tie
 

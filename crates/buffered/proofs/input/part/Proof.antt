@@ -6,7 +6,6 @@ use Rattle.buffered.specs.Input.{held}
 use native.Mathlib.Omega.{arith}
 use borrow.Author.Tests.{le-leb, lt-leb}
 use borrow.Author.Needs.{needs}
-use borrow.Author.Needs.{needs}
 use Rattle.buffered.proofs.input.part.Statement.{statement}
 use Rattle.buffered.proofs.input.part.Tie as tie
 

@@ -2,7 +2,6 @@
 -- The idea: the sum is what `wrapping_add_usize` answers. Assumes nothing.
 use mathlib.Core.Path.{refl}
 use borrow.Author.Needs.{needs}
-use borrow.Author.Needs.{needs}
 use Rattle.buffered.proofs.input.passed.Statement.{statement}
 use Rattle.buffered.proofs.input.passed.Tie as tie
 

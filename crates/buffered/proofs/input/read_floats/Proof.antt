@@ -1,6 +1,6 @@
 -- `buffered::input::read_floats` meets its contract.
 -- The idea: after i turns i floats are read (Floats). The measure is the entries left. Assumes nothing.
-use mathlib.Core.Path.{_≡_, refl, sym, ap, _∙_}
+use mathlib.Core.Path.{_≡_, refl, sym, _∙_}
 use mathlib.Core.Bool.{false≢true}
 use Prim.Native.Nat.{_-_, _≤_}
 use native.Mathlib.Omega.{arith}

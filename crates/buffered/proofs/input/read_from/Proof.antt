@@ -7,7 +7,6 @@ use borrow.Rule.Slice.PartMut.{take-put}
 use native.Mathlib.Nat.{le-refl}
 use borrow.Rule.Slice.PartMut.{mid-len}
 use borrow.Author.Needs.{needs}
-use borrow.Author.Needs.{needs}
 use Rattle.buffered.proofs.input.read_from.Statement.{statement}
 use Rattle.buffered.proofs.input.read_from.Tie as tie
 

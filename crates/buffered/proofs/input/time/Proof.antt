@@ -6,7 +6,6 @@ use mir.Syntax.{w64}
 use mir.Val.{toZ, ofZ}
 use Rattle.sampler_event.specs.Record.{asI64}
 use borrow.Author.Needs.{needs}
-use borrow.Author.Needs.{needs}
 use Rattle.buffered.proofs.input.time.Statement.{statement}
 use Rattle.buffered.proofs.input.time.Tie as tie
 

@@ -1,8 +1,7 @@
 -- `buffered::output::flushed` meets its contract.
 -- The idea: what was refused is tested first. Assumes nothing.
-use mathlib.Core.Path.{_≡_, refl, sym, ap, _∙_}
+use mathlib.Core.Path.{refl, sym, _∙_}
 use mathlib.Core.Bool.{false≢true}
-use borrow.Author.Needs.{needs}
 use borrow.Author.Needs.{needs}
 use Rattle.buffered.proofs.output.flushed.Statement.{statement}
 use Rattle.buffered.proofs.output.flushed.Tie as tie

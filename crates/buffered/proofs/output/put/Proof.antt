@@ -4,7 +4,6 @@ use Rattle.words.proofs.Digits.{length-bytes}
 use Rattle.buffered.proofs.Puts.{put-of}
 use Rattle.words.specs.Digits.{bytesOf}
 use borrow.Author.Needs.{needs}
-use borrow.Author.Needs.{needs}
 use Rattle.buffered.proofs.output.put.Statement.{statement}
 use Rattle.buffered.proofs.output.put.Tie as tie
 

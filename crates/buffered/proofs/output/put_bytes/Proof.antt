@@ -4,7 +4,6 @@ use mathlib.Core.Path.{refl}
 use Rattle.buffered.proofs.Puts.{put-of}
 use lib.ListN.{length}
 use borrow.Author.Needs.{needs}
-use borrow.Author.Needs.{needs}
 use Rattle.buffered.proofs.output.put_bytes.Statement.{statement}
 use Rattle.buffered.proofs.output.put_bytes.Tie as tie
 

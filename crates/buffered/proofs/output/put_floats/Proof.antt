@@ -1,6 +1,6 @@
 -- `buffered::output::put_floats` meets its contract.
 -- The idea: the floats that are left, put after those that are, come to the same (Puts). The measure is how many are left. Assumes nothing.
-use mathlib.Core.Path.{_≡_, refl, sym, ap, _∙_}
+use mathlib.Core.Path.{_≡_, _∙_}
 use Prim.Native.Nat.{_-_, _≤_}
 use native.Mathlib.Omega.{arith}
 use lib.ListN.{length, drop}

@@ -6,7 +6,6 @@ use native.Mathlib.Omega.{arith}
 use borrow.Author.Tests.{le-leb, lt-leb}
 use Rattle.buffered.proofs.Refill.{none}
 use borrow.Author.Needs.{needs}
-use borrow.Author.Needs.{needs}
 use Rattle.buffered.proofs.output.room_for.Statement.{statement}
 use Rattle.buffered.proofs.output.room_for.Tie as tie
 

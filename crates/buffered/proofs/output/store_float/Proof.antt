@@ -1,7 +1,6 @@
 -- `buffered::output::store_float` meets its contract.
 -- The idea: the bits are what `float_bits` answers. Assumes nothing.
 use borrow.Author.Needs.{needs}
-use borrow.Author.Needs.{needs}
 use Rattle.buffered.proofs.output.store_float.Statement.{statement}
 use Rattle.buffered.proofs.output.store_float.Tie as tie
 

@@ -3,7 +3,6 @@
 use native.Mathlib.Omega.{arith}
 use lib.ListN.{length-take}
 use borrow.Author.Needs.{needs}
-use borrow.Author.Needs.{needs}
 use Rattle.buffered.proofs.output.written.Statement.{statement}
 use Rattle.buffered.proofs.output.written.Tie as tie
 

@@ -3,7 +3,6 @@
 use mathlib.Core.Path.{refl}
 use borrow.Author.Tests.{eq-eqb, ne-eqb}
 use borrow.Author.Needs.{needs}
-use borrow.Author.Needs.{needs}
 use Rattle.leg_bytes.proofs.reading.active_of.Statement.{statement}
 use Rattle.leg_bytes.proofs.reading.active_of.Tie as tie
 

@@ -2,7 +2,6 @@
 -- The idea: the calls' equations. Assumes nothing.
 use mathlib.Core.Path.{refl}
 use borrow.Author.Needs.{needs}
-use borrow.Author.Needs.{needs}
 use Rattle.leg_bytes.proofs.reading.blank_at.Statement.{statement}
 use Rattle.leg_bytes.proofs.reading.blank_at.Tie as tie
 

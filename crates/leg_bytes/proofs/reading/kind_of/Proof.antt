@@ -2,7 +2,6 @@
 -- The idea: each arm's number picks the definition's arm. Assumes nothing.
 use mathlib.Core.Path.{refl}
 use borrow.Author.Tests.{ne-eqb}
-use borrow.Author.Needs.{needs}
 use Rattle.leg_bytes.proofs.reading.kind_of.Statement.{statement}
 use Rattle.leg_bytes.proofs.reading.kind_of.Tie as tie
 

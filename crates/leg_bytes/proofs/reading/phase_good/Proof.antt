@@ -2,7 +2,6 @@
 -- The idea: each test of the code is the definition's. Assumes nothing.
 use mathlib.Core.Path.{refl}
 use borrow.Author.Tests.{eq-eqb, ne-eqb, lt-ltb, le-ltb}
-use borrow.Author.Needs.{needs}
 use Rattle.leg_bytes.proofs.reading.phase_good.Statement.{statement}
 use Rattle.leg_bytes.proofs.reading.phase_good.Tie as tie
 

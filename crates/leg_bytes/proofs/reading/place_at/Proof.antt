@@ -4,7 +4,6 @@ use Prim.Native.Nat.{_≤_, _<_}
 use borrow.Author.Tests.{lt-ltb, le-ltb}
 use Rattle.leg_bytes.specs.Read.{numberAt}
 use borrow.Author.Needs.{needs}
-use borrow.Author.Needs.{needs}
 use Rattle.leg_bytes.proofs.reading.place_at.Statement.{statement}
 use Rattle.leg_bytes.proofs.reading.place_at.Tie as tie
 

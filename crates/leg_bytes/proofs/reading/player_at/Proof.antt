@@ -3,7 +3,6 @@
 use mathlib.Core.Path.{refl}
 use Rattle.leg_bytes.specs.Read.{playerAt}
 use borrow.Author.Needs.{needs}
-use borrow.Author.Needs.{needs}
 use Rattle.leg_bytes.proofs.reading.player_at.Statement.{statement}
 use Rattle.leg_bytes.proofs.reading.player_at.Tie as tie
 

@@ -1,9 +1,8 @@
 -- `leg_bytes::reading::points_at` meets its contract.
 -- The idea: the loop's byte picks the definition's case. Assumes nothing.
-use mathlib.Core.Path.{_≡_, refl, sym, ap, _∙_}
+use mathlib.Core.Path.{refl, sym, _∙_}
 use borrow.Author.Tests.{eq-eqb, ne-eqb}
 use Rattle.leg_bytes.specs.Read.{numberAt}
-use borrow.Author.Needs.{needs}
 use borrow.Author.Needs.{needs}
 use Rattle.leg_bytes.proofs.reading.points_at.Statement.{statement}
 use Rattle.leg_bytes.proofs.reading.points_at.Tie as tie

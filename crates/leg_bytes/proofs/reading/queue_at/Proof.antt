@@ -1,6 +1,6 @@
 -- `leg_bytes::reading::queue_at` meets its contract.
 -- The idea: after i turns i places are read. The measure is the places left. Assumes nothing.
-use mathlib.Core.Path.{_≡_, refl, sym, ap, _∙_}
+use mathlib.Core.Path.{_≡_, refl}
 use Prim.Native.Nat.{_-_, _≤_}
 use native.Mathlib.Numerals.{add-one}
 use native.Mathlib.Omega.{arith}

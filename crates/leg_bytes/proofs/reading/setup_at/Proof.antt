@@ -2,7 +2,6 @@
 -- The idea: its four numbers are those that `number` answers. Assumes nothing.
 use mathlib.Core.Path.{refl}
 use borrow.Author.Needs.{needs}
-use borrow.Author.Needs.{needs}
 use Rattle.leg_bytes.proofs.reading.setup_at.Statement.{statement}
 use Rattle.leg_bytes.proofs.reading.setup_at.Tie as tie
 

@@ -6,7 +6,6 @@ use mir.Syntax.{w64}
 use mir.Val.{toZ, ofZ}
 use Rattle.sampler_event.specs.Record.{asI64}
 use borrow.Author.Needs.{needs}
-use borrow.Author.Needs.{needs}
 use Rattle.leg_bytes.proofs.reading.time_at.Statement.{statement}
 use Rattle.leg_bytes.proofs.reading.time_at.Tie as tie
 

@@ -1,7 +1,6 @@
 -- `leg_bytes::writing::active_number` meets its contract.
 -- The idea: each arm is the definition's case. Assumes nothing.
 use borrow.Author.Needs.{needs}
-use borrow.Author.Needs.{needs}
 use Rattle.leg_bytes.proofs.writing.active_number.Statement.{statement}
 use Rattle.leg_bytes.proofs.writing.active_number.Tie as tie
 

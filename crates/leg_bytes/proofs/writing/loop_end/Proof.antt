@@ -2,7 +2,6 @@
 -- The idea: each arm is the definition's case. Assumes nothing.
 use mathlib.Core.Path.{refl}
 use borrow.Author.Needs.{needs}
-use borrow.Author.Needs.{needs}
 use Rattle.leg_bytes.proofs.writing.loop_end.Statement.{statement}
 use Rattle.leg_bytes.proofs.writing.loop_end.Tie as tie
 

@@ -2,7 +2,6 @@
 -- The idea: each arm is the definition's case. Assumes nothing.
 use mathlib.Core.Path.{refl}
 use borrow.Author.Needs.{needs}
-use borrow.Author.Needs.{needs}
 use Rattle.leg_bytes.proofs.writing.loop_start.Statement.{statement}
 use Rattle.leg_bytes.proofs.writing.loop_start.Tie as tie
 

@@ -2,7 +2,6 @@
 -- The idea: the test against the count is the definition's. Assumes nothing.
 use borrow.Author.Tests.{lt-ltb, le-ltb}
 use borrow.Author.Needs.{needs}
-use borrow.Author.Needs.{needs}
 use Rattle.leg_bytes.proofs.writing.place_of.Statement.{statement}
 use Rattle.leg_bytes.proofs.writing.place_of.Tie as tie
 

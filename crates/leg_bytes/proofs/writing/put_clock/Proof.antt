@@ -5,7 +5,6 @@ use mathlib.Core.List.{_++_}
 use Rattle.leg_bytes.specs.Write.{u64, i64}
 use Rattle.leg_bytes.proofs.Stores.{joined}
 use borrow.Author.Needs.{needs}
-use borrow.Author.Needs.{needs}
 use Rattle.leg_bytes.proofs.writing.put_clock.Statement.{statement}
 use Rattle.leg_bytes.proofs.writing.put_clock.Tie as tie
 

@@ -8,7 +8,6 @@ use Rattle.sampler_voice.specs.Voices.{silent}
 use Rattle.leg_bytes.specs.Write.{u8, u64, i64, voiceBytes, activeNumber, pointsBytes}
 use Rattle.leg_bytes.proofs.Stores.{joined}
 use borrow.Author.Needs.{needs}
-use borrow.Author.Needs.{needs}
 use Rattle.leg_bytes.proofs.writing.put_player.Statement.{statement}
 use Rattle.leg_bytes.proofs.writing.put_player.Tie as tie
 

@@ -1,12 +1,11 @@
 -- `leg_bytes::writing::put_time` meets its contract.
 -- The idea: the bits that `signed_bits` answers are the definition's. Assumes nothing.
-use mathlib.Core.Path.{_≡_, refl, sym, ap, _∙_}
+use mathlib.Core.Path.{_≡_, sym, ap, _∙_}
 use native.Mathlib.Omega.{arith}
 use mir.Syntax.{w64}
 use mir.Val.{toZ, ofZ}
 use Rattle.leg_bytes.specs.Write.{bitsOf}
 use Rattle.leg_bytes.proofs.Bits.{bits-back}
-use borrow.Author.Needs.{needs}
 use borrow.Author.Needs.{needs}
 use Rattle.leg_bytes.proofs.writing.put_time.Statement.{statement}
 use Rattle.leg_bytes.proofs.writing.put_time.Tie as tie

@@ -7,7 +7,6 @@ use native.Mathlib.Omega.{arith}
 use Rattle.leg_bytes.specs.Write.{u8, u64, phaseNumber, fadePosition}
 use Rattle.leg_bytes.proofs.Stores.{joined}
 use borrow.Author.Needs.{needs}
-use borrow.Author.Needs.{needs}
 use Rattle.leg_bytes.proofs.writing.put_voice.Statement.{statement}
 use Rattle.leg_bytes.proofs.writing.put_voice.Tie as tie
 

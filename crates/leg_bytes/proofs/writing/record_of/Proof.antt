@@ -1,7 +1,6 @@
 -- `leg_bytes::writing::record_of` meets its contract.
 -- The idea: each arm is the definition's case. Assumes nothing.
 use borrow.Author.Needs.{needs}
-use borrow.Author.Needs.{needs}
 use Rattle.leg_bytes.proofs.writing.record_of.Statement.{statement}
 use Rattle.leg_bytes.proofs.writing.record_of.Tie as tie
 

@@ -15,11 +15,11 @@ less : (n m : ℕ) → 0 < n → m ≤ n - 1 → m < n
 less n m h k = omega arith
 
 abbrev Inv-loop : tie.InvT-loop
-Inv-loop rec table channels block entries₀ count by last₀ at₀ blocks₀ pieces₀ sum₀ left₀ entries last at blocks pieces sum left =
-    length entries ≡ length entries₀
+Inv-loop rec table channels entries₀ block by last₀ at₀ blocks₀ pieces₀ sum₀ left₀ entries last at blocks pieces sum left =
+    (length entries ≡ length entries₀) × (length entries₀ ≤ 65536)
 
 abbrev μ-loop : tie.MeasureT-loop
-μ-loop rec table channels block entries₀ count by last₀ at₀ blocks₀ pieces₀ sum₀ left₀ entries last at blocks pieces sum left =
+μ-loop rec table channels entries₀ block by last₀ at₀ blocks₀ pieces₀ sum₀ left₀ entries last at blocks pieces sum left =
     left
 
 block-time-requires : tie.Need-block-time-requires Inv-loop μ-loop
@@ -38,9 +38,8 @@ bits-sum-requires : tie.Need-bits-sum-requires Inv-loop μ-loop
 bits-sum-requires c κs =
     let r = c .before .before .before .render in
     let z = c .before .before .before .before .before .before .before .before .clear in
-    let l = c .before .before .before .before .before .before .before .before .before .before .before .loop in
-    let few = c .before .before .before .before .before .before .before .before .before .before .before .before .before .before .before .before .pre in (
-      subst (λ (n : ℕ). n ≤ 65536) (sym (r .kept .1 .1 .1 .1 .1 .0 ∙ z .kept .0 ∙ l .inv)) few,
+    let l = c .before .before .before .before .before .before .before .before .before .before .before .loop in (
+      subst (λ (n : ℕ). n ≤ 65536) (sym (r .kept .1 .1 .1 .1 .1 .0 ∙ z .kept .0 ∙ l .inv .0)) (l .inv .1),
       subst Numbers (sym (ap (λ (x : Rendered). x .out) (r .ensures))) (render-numbers _ _ _ _ (z .ensures)),
     )
 
@@ -74,10 +73,11 @@ loop-again : tie.Need-loop-again Inv-loop μ-loop
 loop-again c =
     let r = c .before .before .before .before .before .before .before .before .before .before .render in
     let z = c .before .before .before .before .before .before .before .before .before .before .before .before .before .before .before .clear in
-    r .kept .1 .1 .1 .1 .1 .0 ∙ z .kept .0 ∙ c .before .before .before .before .before .before .before .before .before .before .before .before .before .before .before .before .before .before .loop .inv
+    let l = c .before .before .before .before .before .before .before .before .before .before .before .before .before .before .before .before .before .before .loop in
+    (r .kept .1 .1 .1 .1 .1 .0 ∙ z .kept .0 ∙ l .inv .0, l .inv .1)
 
 same-length : tie.Need-same-length Inv-loop μ-loop
-same-length c = c .before .before .loop .inv
+same-length c = c .before .before .loop .inv .0
 
 returns : tie.Need-returns Inv-loop μ-loop
 returns c = search needs
