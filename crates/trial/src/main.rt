@@ -77,7 +77,15 @@ fn make(
     let leg = answer.leg;
     let before = at.output;
     let numbered = output::put(sink, before, 1, answer.number as u64);
-    run_steps(source, sink, rec, table, entries, at::answered(at, numbered, leg), head.steps)
+    run_steps(
+        source,
+        sink,
+        rec,
+        table,
+        entries,
+        at::answered(at, numbered, leg),
+        head.steps,
+    )
 }
 
 // Recording and table are read, and the leg is made.
@@ -125,7 +133,15 @@ fn trial(
             if b <= table.len() {
                 let heard = input::count(source, whole, 17, 1);
                 let next = at::heard(begun, input::passed(whole, 30), heard);
-                return lend(source, sink, &mut rec[..a], &mut table[..b], entries, next, head);
+                return lend(
+                    source,
+                    sink,
+                    &mut rec[..a],
+                    &mut table[..b],
+                    entries,
+                    next,
+                    head,
+                );
             }
         }
     }
@@ -180,7 +196,14 @@ fn main() {
     let mut left: u64 = 0x7fff_ffff_ffff_ffff;
     while 0 < left {
         left -= 1;
-        at = next(&mut source, &mut sink, &mut rec, &mut table, &mut entries, at);
+        at = next(
+            &mut source,
+            &mut sink,
+            &mut rec,
+            &mut table,
+            &mut entries,
+            at,
+        );
         if !at.more {
             break;
         }

@@ -37,7 +37,12 @@ fn command(source: &mut [u8; 65536], sink: &mut [u8; 65536], at: At) -> At {
     let next = answer.leg;
     let before = at.output;
     let numbered = output::put(sink, before, 1, answer.number as u64);
-    at::closed(sink, at::read(at, input::passed(whole, all)), numbered, next)
+    at::closed(
+        sink,
+        at::read(at, input::passed(whole, all)),
+        numbered,
+        next,
+    )
 }
 
 // ---- step 2
@@ -56,14 +61,27 @@ fn asked_at(source: &mut [u8; 65536], from: Input, n: usize, last: usize) -> Ask
     }
 }
 
-fn put_heard(sink: &mut [u8; 65536], to: Output, number: u8, pieces: usize, entries: &[f32]) -> Output {
+fn put_heard(
+    sink: &mut [u8; 65536],
+    to: Output,
+    number: u8,
+    pieces: usize,
+    entries: &[f32],
+) -> Output {
     let numbered = output::put(sink, to, 1, number as u64);
     let counted = output::put(sink, numbered, 8, pieces as u64);
     output::put_floats(sink, counted, entries)
 }
 
 // The block's answer, with its entries.
-fn render(sink: &mut [u8; 65536], rec: &[f32], table: &[f32], entries: &mut [f32], at: At, asked: Asked) -> At {
+fn render(
+    sink: &mut [u8; 65536],
+    rec: &[f32],
+    table: &[f32],
+    entries: &mut [f32],
+    at: At,
+    asked: Asked,
+) -> At {
     let leg = at.leg;
     let start = asked.start;
     let answer = leg.render(rec, table, at.channels, asked.frames, entries, start);
@@ -106,7 +124,15 @@ fn block(
     let m = asked.count;
     if asked.good {
         if m <= entries.len() {
-            return over(source, sink, rec, table, &mut entries[..m], at::read(at, next), asked);
+            return over(
+                source,
+                sink,
+                rec,
+                table,
+                &mut entries[..m],
+                at::read(at, next),
+                asked,
+            );
         }
     }
     malformed(at)
@@ -151,7 +177,14 @@ fn put_blocks(sink: &mut [u8; 65536], to: Output, done: Blocks) -> Output {
 }
 
 // The run's answer.
-fn sum_up(sink: &mut [u8; 65536], rec: &[f32], table: &[f32], entries: &mut [f32], at: At, asked: Asked) -> At
+fn sum_up(
+    sink: &mut [u8; 65536],
+    rec: &[f32],
+    table: &[f32],
+    entries: &mut [f32],
+    at: At,
+    asked: Asked,
+) -> At
     requires { ⌜ length (now entries) ≤ 65536 ⌝ }
 {
     let leg = at.leg;
@@ -178,7 +211,14 @@ fn blocks(
         if frames <= 4096 {
             let n = entries_of(at.channels, frames);
             if n <= entries.len() {
-                return sum_up(sink, rec, table, &mut entries[..n], at::read(at, next), asked);
+                return sum_up(
+                    sink,
+                    rec,
+                    table,
+                    &mut entries[..n],
+                    at::read(at, next),
+                    asked,
+                );
             }
         }
     }

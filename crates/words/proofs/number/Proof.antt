@@ -24,7 +24,7 @@ room-requires : tie.Need-room-requires Inv-loop μ-loop
 room-requires c κs = search needs
 
 loop-holds : tie.Need-loop-holds Inv-loop μ-loop
-loop-holds c =     let r : c .room .result - c .room .result ≡ 0 = omega arith in
+loop-holds c = let r : c .room .result - c .room .result ≡ 0 = omega arith in
     (search needs, (rw r refl, rw r (lit< tt)))
 
 sub-i : tie.Need-sub-i Inv-loop μ-loop

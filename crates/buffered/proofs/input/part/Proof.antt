@@ -16,7 +16,7 @@ between-requires : tie.Need-between-requires
 between-requires c κs = search needs
 
 returns : tie.Need-returns
-returns c = 
+returns c =
     let a = c .before .before .before .before .args in
     rw (le-leb (held (a .input)) (a .skip) (omega arith)) (c .between .ensures)
 
@@ -27,7 +27,7 @@ between-requires-2 : tie.Need-between-requires-2
 between-requires-2 c κs = search needs
 
 returns-2 : tie.Need-returns-2
-returns-2 c = 
+returns-2 c =
     let a = c .before .before .before .before .before .args in
     rw (lt-leb (held (a .input)) (a .skip) (omega arith), lt-leb (a .n) (held (a .input) - a .skip) (omega arith)) (c .between2 .ensures)
 
@@ -44,7 +44,7 @@ between-requires-3 : tie.Need-between-requires-3
 between-requires-3 c κs = omega arith
 
 returns-3 : tie.Need-returns-3
-returns-3 c = 
+returns-3 c =
     let a = c .before .before .before .before .before .args in
     let e : a .input .at + a .skip + a .n - (a .input .at + a .skip) ≡ a .n = omega arith in
     rw (lt-leb (held (a .input)) (a .skip) (omega arith), le-leb (a .n) (held (a .input) - a .skip) (omega arith)) (rw e at (c .between3 .ensures))

@@ -26,7 +26,7 @@ same-length : tie.Need-same-length
 same-length c = search needs
 
 returns : tie.Need-returns
-returns c = 
+returns c =
     let a = c .before .before .before .before .before .args in
     let r = c .before .before .read-full in
     let m = mid-len (a .at) (length (a .buffer .now)) (a .buffer .now) (le-refl (length (a .buffer .now))) in

@@ -16,12 +16,12 @@ flushed-requires : tie.Need-flushed-requires
 flushed-requires c κs = search needs
 
 returns : tie.Need-returns
-returns c =     let a = c .before .before .args in
+returns c = let a = c .before .before .args in
     let h : a .output .held + a .n ≤ 65536 = omega arith in
     (rw (le-leb (a .output .held + a .n) 65536 h) refl, ((λ _. refl), h))
 
 returns-2 : tie.Need-returns-2
-returns-2 c =     let a = c .before .before .before .args in
+returns-2 c = let a = c .before .before .before .args in
     let h : 65536 < a .output .held + a .n = omega arith in
     (rw (lt-leb (a .output .held + a .n) 65536 h) (c .flushed .ensures .0), ((λ l. absurd (none h l)), omega arith))
 

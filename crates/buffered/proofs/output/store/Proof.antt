@@ -36,7 +36,7 @@ loop-less : tie.Need-loop-less Inv-loop μ-loop
 loop-less c = search needs
 
 loop-again : tie.Need-loop-again Inv-loop μ-loop
-loop-again c = 
+loop-again c =
     let l = c .before .before .loop in
     let a = c .before .before .before .args in
     (omega arith, (simp length-set (l .inv .1 .0), rw (l .inv .1 .1) (store-more (a .buffer .now) (a .bytes .now) (a .at) (l .i) (omega arith) (omega arith))))
@@ -45,7 +45,7 @@ same-length : tie.Need-same-length Inv-loop μ-loop
 same-length c = search needs
 
 returns : tie.Need-returns Inv-loop μ-loop
-returns c = 
+returns c =
     let l = c .before .loop in
     let a = c .before .before .args in
     l .inv .1 .1 ∙ all-stored (a .buffer .now) (a .bytes .now) (a .at) (l .i) (omega arith) (omega arith)

@@ -45,7 +45,7 @@ kind-good-requires : tie.Need-kind-good-requires
 kind-good-requires c κs = search needs
 
 returns : tie.Need-returns
-returns c =     rw
+returns c = rw
     (c .kind-good .ensures, c .before .kind-of .ensures, c .before .before .before .before .time-at .ensures, c .before .before .before .time-at2 .ensures, c .before .before .time-at3 .ensures, c .before .before .before .before .before .number3 .ensures .0, c .before .before .before .before .before .before .number2 .ensures .0, c .before .before .before .before .before .before .before .number .ensures .0)
     refl
 

@@ -21,7 +21,7 @@ returns-5 : tie.Need-returns-5
 returns-5 c = rw (c .match .keys5) refl
 
 returns-6 : tie.Need-returns-6
-returns-6 c =     let k = c .before .args .kind in
+returns-6 c = let k = c .before .args .kind in
     let n = c .match .rest in
     rw (ne-eqb k 2 (n .0 .0 .0 .0 .1), ne-eqb k 3 (n .0 .0 .0 .1), ne-eqb k 4 (n .0 .0 .1), ne-eqb k 5 (n .0 .1), ne-eqb k 6 (n .1)) refl
 

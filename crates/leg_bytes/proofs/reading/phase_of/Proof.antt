@@ -15,7 +15,7 @@ returns-3 : tie.Need-returns-3
 returns-3 c = rw (c .match .keys3) refl
 
 returns-4 : tie.Need-returns-4
-returns-4 c =     let k = c .before .args .kind in
+returns-4 c = let k = c .before .args .kind in
     let n = c .match .rest in
     rw (ne-eqb k 1 (n .0 .0 .1), ne-eqb k 2 (n .0 .1), ne-eqb k 3 (n .1)) refl
 

@@ -20,7 +20,7 @@ event-at-requires : tie.Need-event-at-requires
 event-at-requires c κs = search needs
 
 returns : tie.Need-returns
-returns c =     let a = c .before .before .before .before .args in
+returns c = let a = c .before .before .before .before .args in
     let h : a .i < numberAt (a .bytes .now) 89 1 = rw (c .before .before .number .ensures .0) at (c .before .if1 .taken) in
     rw (lt-ltb (a .i) (numberAt (a .bytes .now) 89 1) h) (c .event-at .ensures)
 
@@ -34,7 +34,7 @@ blank-at-requires : tie.Need-blank-at-requires
 blank-at-requires c κs = search needs
 
 returns-2 : tie.Need-returns-2
-returns-2 c =     let a = c .before .before .before .before .args in
+returns-2 c = let a = c .before .before .before .before .args in
     let h : numberAt (a .bytes .now) 89 1 ≤ a .i = rw (c .before .before .number .ensures .0) at (c .before .if1 .left) in
     rw (le-ltb (a .i) (numberAt (a .bytes .now) 89 1) h) (c .blank-at .ensures)
 

@@ -32,7 +32,7 @@ number-requires-2 c κs = search needs
 
 returns : tie.Need-returns
 unfolding playerAt
-returns c =     rw
+returns c = rw
     (c .before .before .before .before .before .before .active-of .ensures, c .before .before .before .before .before .before .before .before .before .before .before .before .voice-at .ensures, c .before .before .before .before .before .before .before .before .before .before .before .voice-at2 .ensures, c .before .before .before .before .before .before .before .before .before .points-at .ensures, c .before .before .before .before .before .before .before .before .before .before .number .ensures .0, c .before .before .before .before .before .time-at .ensures, c .before .before .before .before .time-at2 .ensures, c .before .before .before .number2 .ensures .0)
     refl
 

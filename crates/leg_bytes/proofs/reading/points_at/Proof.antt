@@ -17,7 +17,7 @@ number-requires-3 : tie.Need-number-requires-3
 number-requires-3 c κs = search needs
 
 returns : tie.Need-returns
-returns c =     let n = c .before .before .before .number .ensures .0 in
+returns c = let n = c .before .before .before .number .ensures .0 in
     let s = c .before .before .before .before .before .args .bytes .now in
     rw (eq-eqb (numberAt s 48 1) 0 (sym n ∙ c .before .before .if1 .taken), c .before .number2 .ensures .0, c .number3 .ensures .0) refl
 
@@ -28,7 +28,7 @@ time-at-requires-2 : tie.Need-time-at-requires-2
 time-at-requires-2 c κs = search needs
 
 returns-2 : tie.Need-returns-2
-returns-2 c =     let n = c .before .before .before .number .ensures .0 in
+returns-2 c = let n = c .before .before .before .number .ensures .0 in
     let s = c .before .before .before .before .before .args .bytes .now in
     rw (ne-eqb (numberAt s 48 1) 0 (λ h. c .before .before .if1 .left (n ∙ h)), n, c .before .time-at .ensures, c .time-at2 .ensures) refl
 

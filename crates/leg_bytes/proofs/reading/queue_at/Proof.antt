@@ -37,7 +37,7 @@ loop-less : tie.Need-loop-less Inv-loop μ-loop
 loop-less c = search needs
 
 loop-again : tie.Need-loop-again Inv-loop μ-loop
-loop-again c =     let l = c .before .before .before .before .loop in
+loop-again c = let l = c .before .before .before .before .loop in
     let p = c .before .before .place-at .ensures in
     (omega arith, (rw (add-one (l .i), l .inv .1 .0, p) refl, rw (add-one (l .i), l .inv .1 .1, p) refl))
 
@@ -46,7 +46,7 @@ number-requires c κs = search needs
 
 returns : tie.Need-returns Inv-loop μ-loop
 unfolding queueAt
-returns c =     let l = c .before .before .loop in
+returns c = let l = c .before .before .loop in
     let e : l .i ≡ 16 = omega arith in
     let p = rw e at (l .inv .1 .0) in
     let g = rw e at (l .inv .1 .1) in

@@ -19,7 +19,7 @@ from-raw-i64-requires : tie.Need-from-raw-i64-requires
 from-raw-i64-requires c κs = search needs
 
 returns : tie.Need-returns
-returns c =     let z = c .before .as-i64 .result in
+returns c = let z = c .before .as-i64 .result in
     let b : toZ w64 (ofZ w64 z) ≡ z = search needs in
     ap (λ (y : ℤ). record { bits = y }) (c .from-raw-i64 .ensures ∙ b ∙ c .before .as-i64 .ensures ∙ ap asI64 (c .before .before .number .ensures .0))
 

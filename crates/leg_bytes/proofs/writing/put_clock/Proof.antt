@@ -18,7 +18,7 @@ put-requires : tie.Need-put-requires
 put-requires c κs = search needs
 
 returns : tie.Need-returns
-returns c =     let a = c .before .before .before .before .before .before .args in
+returns c = let a = c .before .before .before .before .before .before .args in
     let p = c .before .before .before .before .put-time in
     let q = c .before .before .put-time2 in
     let e = c .put .last .0 in

@@ -36,7 +36,7 @@ put-clock-requires : tie.Need-put-clock-requires
 put-clock-requires c κs = search needs
 
 returns : tie.Need-returns
-returns c =     let a = c .before .before .before .before .before .before .before .before .before .before .before .before .before .before .before .args in
+returns c = let a = c .before .before .before .before .before .before .before .before .before .before .before .before .before .before .before .args in
     let v = a .t2 in
     let p = c .before .before .before .before .before .before .before .before .before .before .before .before .put-voice in
     let q = c .before .before .before .before .before .before .before .before .before .put-voice2 in

@@ -27,7 +27,7 @@ put-time-requires-2 : tie.Need-put-time-requires-2
 put-time-requires-2 c κs = search needs
 
 returns : tie.Need-returns
-returns c =     let a = c .before .before .before .before .before .before .before .before .before .args in
+returns c = let a = c .before .before .before .before .before .before .before .before .before .args in
     let v = a .points in
     let p = c .before .before .before .before .before .before .put in
     let q = c .before .before .before .put-time in

@@ -41,12 +41,12 @@ loop-less : tie.Need-loop-less Inv-loop μ-loop
 loop-less c = search needs
 
 loop-again : tie.Need-loop-again Inv-loop μ-loop
-loop-again c =     let l = c .before .before .before .before .loop in
+loop-again c = let l = c .before .before .before .before .loop in
     let q = c .before .before .before .before .before .before .before .args .queue in
     (omega arith, place-more q (c .before .before .before .before .before .put .last .0) (l .bytes) (c .put-record .last .0) (l .i) (l .inv .1) (rw (c .before .place-of .ensures) at (c .put-record .ensures)))
 
 returns : tie.Need-returns Inv-loop μ-loop
-returns c =     let l = c .before .loop in
+returns c = let l = c .before .loop in
     let a = c .before .before .before .before .args in
     let p = c .before .before .put in
     let e : l .i ≡ 16 = omega arith in

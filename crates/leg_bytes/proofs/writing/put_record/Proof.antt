@@ -35,7 +35,7 @@ put-time-requires-3 : tie.Need-put-time-requires-3
 put-time-requires-3 c κs = search needs
 
 returns : tie.Need-returns
-returns c =     let a = c .before .before .before .before .before .before .before .before .before .before .before .before .args in
+returns c = let a = c .before .before .before .before .before .before .before .before .before .before .before .before .args in
     let v = a .place in
     let p = c .before .before .before .before .before .before .put in
     let q = c .before .before .before .before .put-time in

@@ -21,7 +21,7 @@ put-requires-4 : tie.Need-put-requires-4
 put-requires-4 c κs = search needs
 
 returns : tie.Need-returns
-returns c =     let s = c .before .before .before .before .before .before .before .before .args .bytes .now in
+returns c = let s = c .before .before .before .before .before .before .before .before .args .bytes .now in
     let v = c .before .before .before .before .before .before .before .before .args .setup in
     let p = c .before .before .before .before .before .before .put in
     let q = c .before .before .before .before .put2 in

@@ -20,7 +20,7 @@ put-requires : tie.Need-put-requires
 put-requires c κs = search needs
 
 returns : tie.Need-returns
-returns c =     let u = c .before .signed-bits in
+returns c = let u = c .before .signed-bits in
     let z = c .before .before .as-raw-i64 in
     let b : toZ w64 (ofZ w64 (z .result)) ≡ z .result = search needs in
     let k = sym (bits-back (u .result) (omega arith)) ∙ ap bitsOf (u .ensures ∙ b ∙ z .ensures) in

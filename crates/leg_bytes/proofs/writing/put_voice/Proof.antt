@@ -32,7 +32,7 @@ put-requires-3 : tie.Need-put-requires-3
 put-requires-3 c κs = search needs
 
 returns : tie.Need-returns
-returns c =     let a = c .before .before .before .before .before .before .before .before .args in
+returns c = let a = c .before .before .before .before .before .before .before .before .args in
     let v = a .voice in
     let p = c .before .before .before .before .before .put in
     let q = c .before .before .put2 in
