@@ -38,7 +38,7 @@ use Rattle.sampler_processor.proofs.Turns.{length-pending}
 
 -- ---- the delays
 
--- d - t, times R
+-- n − t, times R
 times : (z : ℤ) (n t R : ℕ) → Minus z n t → Minus (z *ℤ pos R) (n * R) (t * R)
 times (pos m) n t R h = sym (add-mul m t R) ∙ ap (λ (x : ℕ). x * R) h
 times (negsuc m) n t R h = neg-minus (pos (suc m * R)) (t * R) (n * R) (sum (suc m) h)

@@ -5,7 +5,7 @@ pub mod Kept
 pub mod Refused
 pub mod Admitted
 pub mod Settled
--- Sizes: what the kept sizes bound. Pairs: two voices as a list. Waiting: the queue's test along its array. Output: rule 6 along a slice. Answers: what making and a command
+-- Sizes: what the kept sizes bound. Pairs: which of two voices alone is held. Waiting: the queue's test along its array. Output: rule 6 along a slice. Answers: what making and a command
 -- answer, by their parts.
 pub mod Sizes
 pub mod Pairs

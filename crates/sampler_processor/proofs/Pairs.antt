@@ -1,22 +1,15 @@
--- The two voices of a leg as a list, and which of them alone is held.
--- The idea: a list of two is its two elements, and a number is 0, 1 or more. Assumes nothing.
+-- Which of the two voices of a leg alone is held.
+-- The idea: a number is 0, 1 or more. Assumes nothing.
 use Prim.Native.Nat.{ℕ, zero, suc}
 use mathlib.Core.Path.{_≡_, refl}
 use mathlib.Core.Bool.{Bool, true, false, _&&_, _||_, not}
-use mathlib.Core.List.{List, [], _∷_}
+use mathlib.Core.List.{[], _∷_}
 use native.Mathlib.Omega.{arith}
 use borrow.Author.Tests.{ne-eqb}
 use lib.Dec.{eqb}
-use lib.ListN.{length, getD}
 use Rattle.sampler_voice.specs.declared.Voice.{Voice}
 use Rattle.sampler_voice.specs.Voices.{isHeld}
 use Rattle.sampler_player.specs.Sound.{onlyHeld}
-
-pub pair : (vs : List Voice) (d : Voice) → length vs ≡ 2 → vs ≡ getD vs 0 d ∷ getD vs 1 d ∷ []
-pair [] d h = absurd (omega arith)
-pair (v ∷ []) d h = absurd (omega arith)
-pair (v ∷ w ∷ []) d h = refl
-pair (v ∷ w ∷ x ∷ xs) d h = absurd (omega arith)
 
 -- "active names a voice that is FadingIn or Playing while the other is Stopped or FadingOut"
 pub only : (i : ℕ) (v w : Voice) → ((eqb i 0 && (isHeld (v .phase) && not (isHeld (w .phase)))) || (eqb i 1 && (not (isHeld (v .phase)) && isHeld (w .phase)))) ≡ onlyHeld i (v ∷ w ∷ [])

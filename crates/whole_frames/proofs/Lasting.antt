@@ -6,13 +6,12 @@ use native.Mathlib.Nat.{le-refl, le-trans}
 use mathlib.Core.Path.{_≡_, refl, _∙_}
 use mathlib.Core.List.{List, [], _∷_}
 use mathlib.Core.Option.{Option, none, some}
-use Rattle.sampler_player.specs.declared.Points.{Points}
-use Rattle.sampler_player.specs.declared.Points.the-variants.{Absent, Between}
+use Rattle.timestamp.specs.declared.Timestamp.{Timestamp}
 use Rattle.sampler_player.specs.declared.Setup.{Setup}
 use Rattle.sampler_player.specs.Clock.{Clock}
-use Rattle.sampler_player.specs.Pieces.{Lent, Going, interval, after, andThen, pieceOf, rendered, caughtUp, passOf, pass, passes, renderings}
+use Rattle.sampler_player.specs.Pieces.{Lent, Going, loopBack, after, andThen, pieceOf, rendered, pass, passes, renderings}
 use Rattle.sampler_player.proofs.Assign.{back-points, back-start, back-completed}
-use Rattle.sampler_player.proofs.Fuel.{within-remaining}
+use Rattle.sampler_player.proofs.Passes.{going, Each, each-pass}
 
 -- every piece has at most l frames
 abbrev pub AtMost : ℕ → List ℕ → Type 0
@@ -44,29 +43,17 @@ record Onward (g h : Going) : Type 0 where
   start : h .player .start ≡ g .player .start
   points : h .player .points ≡ g .player .points
 
-abbrev Ahead : Going → Option Going → Type 0
-Ahead g none = Unit {0}
-Ahead g (some h) = Onward g h
-
 module _ (k : Clock) (s : Setup) (b : Lent) where
-  ahead-caught : (q : Points) (g : Going) → Ahead g (caughtUp k s b q g)
-  unfolding caughtUp
-  ahead-caught Absent g = tt
-  ahead-caught (Between from end) g =
+  onward-caught : (from : Timestamp) (g : Going) → Onward g (going (loopBack k s from (g .player)) g)
+  onward-caught from g =
       let c = back-completed k s from (g .player) in
       record { left = le-refl _; completed = omega (arith, c); start = back-start k s from (g .player); points = back-points k s from (g .player) }
 
-  ahead-piece : (i : ℕ) (g : Going) → i ≤ g .remaining → Ahead g (passOf k s b i g)
-  unfolding passOf rendered
-  ahead-piece zero g h = ahead-caught (g .player .points) g
-  ahead-piece (suc i) g h = record { left = omega arith; completed = le-refl _; start = refl; points = refl }
+  onward-piece : (n : ℕ) (g : Going) → Onward g (rendered k s b n g)
+  unfolding rendered
+  onward-piece n g = record { left = omega arith; completed = le-refl _; start = refl; points = refl }
 
-  ahead-pass : (r : ℕ) (g : Going) → r ≤ g .remaining → Ahead g (pass k s b r g)
-  unfolding pass
-  ahead-pass zero g h = tt
-  ahead-pass (suc r) g h = ahead-piece (interval k s (g .player) (suc r)) g (le-trans (within-remaining k s (g .player) (suc r)) h)
-
-  on : (go : Going → Going) (tell : Going → List ℕ) → ((h : Going) → Lasting h (go h) (tell h)) → (g : Going) (o : Option Going) → Ahead g o → Lasting g (after go g o) (andThen tell g o)
+  on : (go : Going → Going) (tell : Going → List ℕ) → ((h : Going) → Lasting h (go h) (tell h)) → (g : Going) (o : Option Going) → Each (Onward g) o → Lasting g (after go g o) (andThen tell g o)
   on go tell ih g none a = lasting-none g
   on go tell ih g (some h) a =
       let t = ih h in
@@ -81,4 +68,5 @@ module _ (k : Clock) (s : Setup) (b : Lent) where
   unfolding passes renderings
   lasting zero g = lasting-none g
   lasting (suc f) g =
-      on (λ h. passes k s b f h) (λ h. renderings k s b f h) (lasting f) g (pass k s b (g .remaining) g) (ahead-pass (g .remaining) g (le-refl _))
+      on (λ h. passes k s b f h) (λ h. renderings k s b f h) (lasting f) g (pass k s b (g .remaining) g)
+      (each-pass k s b g (Onward g) (λ from end q h z. onward-caught from g) (λ n e h. onward-piece (suc n) g))

@@ -17,7 +17,8 @@ use Rattle.sampler_player.specs.Clock.{clockAt}
 use Rattle.sampler_player.specs.Pieces.{Lent, Going, passes, renderings, total}
 use Rattle.sampler_processor.specs.declared.Leg.{Leg}
 use Rattle.sampler_processor.specs.Numbers.{renderOrder}
-use Rattle.sampler_processor.specs.Block.{Running, Ended, frameOf, upTo, applied, isTaken, block}
+use Rattle.sampler_processor.specs.Block.{Running, Ended, frameOf, isTaken, block}
+pub use Rattle.sampler_processor.specs.Block.{past}
 use Rattle.sampler_processor.specs.Calls.{submit, render}
 
 -- what is told of a run, first to last: the frames of each piece that it renders, and the events that it applies
@@ -42,15 +43,11 @@ module _ (s : Setup) (b : Lent) (start : ℤ) where
   abbrev pub piecesTo : ℕ → Running → List ℕ
   piecesTo f r = renderings (clockAt (s .rate)) s b (f - r .done + (2 ^ 27 + 1)) (towards f r)
 
-  -- one event further: the segment up to it, then the event
-  abbrev pub past : Event → Running → Running
-  past e r = applied s b start e (upTo s b start (frameOf (s .rate) start (r .now) (e .time .bits)) r)
-
   -- up to the event, the event, and on; or the block's last frames
   abbrev pub toldOn : (Running → Told) → Event → Running → Bool → Told
   toldOn go e r true =
       let f = frameOf (s .rate) start (r .now) (e .time .bits) in
-      then (record { pieces = piecesTo f r; events = e ∷ [] }) (go (past e r))
+      then (record { pieces = piecesTo f r; events = e ∷ [] }) (go (past s b start e r))
   toldOn go e r false = record { pieces = piecesTo (b .block) r; events = [] }
 
   unfoldable pub toldOf : List Event → Running → Told
@@ -65,14 +62,14 @@ module _ (s : Setup) (b : Lent) (start : ℤ) where
   -- A point between two events: from these events, queue and state the block comes to those
   pub data Comes : List Event → Queue → Running → List Event → Queue → Running → Type 0 where
     at : {es : List Event} {q : Queue} {r : Running} → Comes es q r es q r
-    on : {e : Event} {es fs : List Event} {q p : Queue} {r t : Running} → isTaken s b start e r ≡ true → Comes es (without q) (past e r) fs p t → Comes (e ∷ es) q r fs p t
+    on : {e : Event} {es fs : List Event} {q p : Queue} {r t : Running} → isTaken s b start e r ≡ true → Comes es (without q) (past s b start e r) fs p t → Comes (e ∷ es) q r fs p t
 
   -- Any point of the rest of a block: some events further, and n passes into the segment that follows. What is told up to there, and what plays there
   pub data Inside : List Event → Running → Told → Player → Type 0 where
     here : {es : List Event} {r : Running} (n : ℕ)
         → Inside es r (record { pieces = renderings (clockAt (s .rate)) s b n (towards (nextStop es r) r); events = [] })
         (passes (clockAt (s .rate)) s b n (towards (nextStop es r) r) .player)
-    later : {e : Event} {es : List Event} {r : Running} {a : Told} {p : Player} → isTaken s b start e r ≡ true → Inside es (past e r) a p
+    later : {e : Event} {es : List Event} {r : Running} {a : Told} {p : Player} → isTaken s b start e r ≡ true → Inside es (past s b start e r) a p
         → Inside (e ∷ es) r (then (record { pieces = piecesTo (frameOf (s .rate) start (r .now) (e .time .bits)) r; events = e ∷ [] }) a) p
 
 -- ---- calls

@@ -4,7 +4,7 @@ use mathlib.Core.Path.{_≡_, refl}
 use mathlib.Core.Bool.{or-false}
 use lib.ListN.{length}
 use Rattle.sampler_voice.specs.Voices.{silent}
-use Rattle.sampler_processor.proofs.Pairs.{pair}
+use Rattle.sampler_voice.proofs.Two.{pair}
 use borrow.Author.Needs.{needs}
 use Rattle.sampler_processor.proofs.numbers.any_far.Statement.{statement}
 use Rattle.sampler_processor.proofs.numbers.any_far.Tie as tie

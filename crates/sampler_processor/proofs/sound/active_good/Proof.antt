@@ -4,7 +4,7 @@ use mathlib.Core.Path.{_≡_, refl}
 use mathlib.Core.Bool.{and-true}
 use lib.ListN.{length, getD}
 use Rattle.sampler_voice.specs.Voices.{silent}
-use Rattle.sampler_processor.proofs.Pairs.{pair}
+use Rattle.sampler_voice.proofs.Two.{pair}
 use Rattle.sampler_processor.proofs.Pairs.{only}
 use borrow.Author.Needs.{needs}
 use Rattle.sampler_processor.proofs.sound.active_good.Statement.{statement}
