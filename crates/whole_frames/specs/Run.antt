@@ -17,6 +17,7 @@ use Rattle.sampler_player.specs.Clock.{clockAt}
 use Rattle.sampler_player.specs.Pieces.{Lent, Going, passes, renderings, total}
 use Rattle.sampler_processor.specs.declared.Leg.{Leg}
 use Rattle.sampler_processor.specs.Numbers.{renderOrder}
+use Rattle.sampler_processor.specs.Block as Block
 use Rattle.sampler_processor.specs.Block.{Running, Ended, frameOf, isTaken, block}
 pub use Rattle.sampler_processor.specs.Block.{past}
 use Rattle.sampler_processor.specs.Calls.{submit, render}
@@ -80,7 +81,7 @@ pub data Call : Type 0 where
 
 -- a block at its first frame
 abbrev pub opening : Leg → List Float → ℤ → Running
-opening l out start = record { player = l .player; out = out; done = 0; now = start; pieces = 0 }
+opening l out start = Block.opening (l .player) out start
 
 -- a refused call renders nothing and applies nothing, and so does a command
 abbrev pub toldBy : ℕ → Leg → Lent → List Float → ℤ → Told
