@@ -1,15 +1,13 @@
 // Drives a leg from a file (docs/TRIAL.md): reads trials from standard input until it ends, and writes what
 // the leg answered. A malformed one ends the program with a line on standard error.
-mod at;
-mod run;
-mod steps;
-
-use at::At;
 use buffered::input;
 use buffered::input::Input;
 use buffered::output;
 use libc::STDERR_FILENO;
 use sampler_processor::Leg;
+use trial_steps::at;
+use trial_steps::at::At;
+use trial_steps::steps;
 
 // ---- a trial's head
 
@@ -191,7 +189,9 @@ fn main() {
     let mut rec = [0.0f32; 524288];
     let mut table = [0.0f32; 8192];
     let mut entries = [0.0f32; 16384];
-    let mut at = at::start();
+    let blank = Leg::make(0, 0, 0, 0);
+    let leg = blank.leg;
+    let mut at = at::start(leg);
     // a limit, since every loop ends
     let mut left: u64 = 0x7fff_ffff_ffff_ffff;
     while 0 < left {

@@ -10,6 +10,9 @@ Inv-loop source₀ sink₀ rec₀ table₀ entries₀ at₀ left₀ source sink 
 abbrev μ-loop : tie.MeasureT-loop
 μ-loop source₀ sink₀ rec₀ table₀ entries₀ at₀ left₀ source sink rec table entries at left = left
 
+make-requires : tie.Need-make-requires Inv-loop μ-loop
+make-requires c κs = search needs
+
 start-requires : tie.Need-start-requires Inv-loop μ-loop
 start-requires c κs = search needs
 
@@ -40,6 +43,7 @@ main-spec =
     (tie.spec
     Inv-loop
     μ-loop
+    make-requires
     start-requires
     loop-holds
     sub-left

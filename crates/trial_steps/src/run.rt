@@ -7,6 +7,7 @@ ghost use Prim.Native.Nat.{_≤_, _<_, _^_};
 ghost use lib.ListN.{length};
 ghost use Rattle.laws.proofs.NoNan.{Number};
 ghost use Rattle.sampler_voice.proofs.NoNan.{Numbers};
+ghost use Rattle.trial_steps.specs.Follows.{Follows};
 
 // What a step asks of blocks: whether it is all there, and what follows it; the first one's start, the frames of
 // each, and how many there are or, of one, how many entries.
@@ -96,6 +97,7 @@ pub fn run(
     asked: Asked,
 ) -> Blocks
     requires { ⌜ length (now entries) ≤ 65536 ⌝ }
+    ensures { λ r. ⌜ Follows leg 4 (r .leg) ⌝ }
 {
     let block = asked.frames;
     let by = block_time(leg, block);

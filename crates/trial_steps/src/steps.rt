@@ -1,4 +1,4 @@
-// The four steps: each reads what follows its byte, tells the leg, and writes what it answered.
+// The four steps.
 use crate::at;
 use crate::at::At;
 use crate::run;
@@ -8,11 +8,16 @@ use buffered::input;
 use buffered::input::Input;
 use buffered::output;
 use buffered::output::Output;
-ghost use Prim.Native.Nat.{_≤_};
+ghost use mathlib.Core.Path.{_≡_};
+ghost use Prim.Native.Nat.{ℕ, _≤_};
 ghost use lib.ListN.{length};
+ghost use Rattle.trial_steps.specs.Places.{endedBy};
+ghost use Rattle.trial_steps.specs.Follows.{Stepped};
 
 // The step's byte, at which it begins, is the next one.
-fn malformed(at: At) -> At {
+fn malformed(at: At) -> At
+    ensures { λ r. ⌜ r ≡ endedBy 2 (at .begins) at ⌝ }
+{
     at::ended(at, 2, at.begins)
 }
 
@@ -23,7 +28,9 @@ fn command_bytes(n: usize) -> usize {
     if n <= 64 { n + 3 } else { 3 }
 }
 
-fn command(source: &mut [u8; 65536], sink: &mut [u8; 65536], at: At) -> At {
+fn command(source: &mut [u8; 65536], sink: &mut [u8; 65536], at: At) -> At
+    ensures { λ r. ⌜ Stepped 1 at r ⌝ }
+{
     let from = at.input;
     let head = input::filled(source, from, 3);
     let n = input::count(source, head, 1, 2);
@@ -81,7 +88,9 @@ fn render(
     entries: &mut [f32],
     at: At,
     asked: Asked,
-) -> At {
+) -> At
+    ensures { λ r. ⌜ Stepped 2 at r ⌝ }
+{
     let leg = at.leg;
     let start = asked.start;
     let answer = leg.render(rec, table, at.channels, asked.frames, entries, start);
@@ -100,7 +109,9 @@ fn over(
     entries: &mut [f32],
     at: At,
     asked: Asked,
-) -> At {
+) -> At
+    ensures { λ r. ⌜ Stepped 2 at r ⌝ }
+{
     let from = at.input;
     let read = input::read_floats(source, from, entries);
     let input = read.input;
@@ -117,7 +128,9 @@ fn block(
     table: &[f32],
     entries: &mut [f32],
     at: At,
-) -> At {
+) -> At
+    ensures { λ r. ⌜ Stepped 2 at r ⌝ }
+{
     let from = at.input;
     let asked = asked_at(source, from, 13, 2);
     let next = asked.input;
@@ -140,7 +153,9 @@ fn block(
 
 // ---- step 3
 
-fn placed(source: &mut [u8; 65536], sink: &mut [u8; 65536], at: At) -> At {
+fn placed(source: &mut [u8; 65536], sink: &mut [u8; 65536], at: At) -> At
+    ensures { λ r. ⌜ Stepped 3 at r ⌝ }
+{
     let from = at.input;
     let head = input::filled(source, from, 491);
     let read = leg_bytes::read(input::part(source, head, 1, 490));
@@ -186,6 +201,7 @@ fn sum_up(
     asked: Asked,
 ) -> At
     requires { ⌜ length (now entries) ≤ 65536 ⌝ }
+    ensures { λ r. ⌜ Stepped 4 at r ⌝ }
 {
     let leg = at.leg;
     let done = run::run(leg, rec, table, at.channels, entries, asked);
@@ -202,7 +218,9 @@ fn blocks(
     table: &[f32],
     entries: &mut [f32],
     at: At,
-) -> At {
+) -> At
+    ensures { λ r. ⌜ Stepped 4 at r ⌝ }
+{
     let from = at.input;
     let asked = asked_at(source, from, 15, 4);
     let next = asked.input;
@@ -234,7 +252,9 @@ pub fn step(
     table: &[f32],
     entries: &mut [f32],
     at: At,
-) -> At {
+) -> At
+    ensures { λ r. ⌜ ((kind : ℕ) × Stepped kind at r) ⌝ }
+{
     let from = at.input;
     let head = input::filled(source, from, 1);
     let kind = input::number(source, head, 0, 1);

@@ -1,10 +1,13 @@
--- `trial::steps::block` is safe: the entries that are lent are within the array.
+-- `trial_steps::steps::block` is safe: the entries that are lent are within the array.
 -- The idea: their number is tested. Assumes nothing.
+use mathlib.Core.Path.{ap}
+use Rattle.trial_steps.specs.declared.at.At.{At}
+use Rattle.trial_steps.proofs.Stepped.{stopped, after}
 use native.Mathlib.Omega.{arith}
 use lib.ListN.{length-take}
 use borrow.Author.Needs.{needs}
-use Rattle.trial.proofs.steps.block.Statement.{statement}
-use Rattle.trial.proofs.steps.block.Tie as tie
+use Rattle.trial_steps.proofs.steps.block.Statement.{statement}
+use Rattle.trial_steps.proofs.steps.block.Tie as tie
 
 asked-at-requires : tie.Need-asked-at-requires
 asked-at-requires c κs = search needs
@@ -25,13 +28,13 @@ same-length : tie.Need-same-length
 same-length c = search needs
 
 returns : tie.Need-returns
-returns c = search needs
+returns c = after 2 _ _ _ (ap (λ (a : At). a .leg) (c .before .before .before .read .ensures)) (c .before .before .over .ensures)
 
 malformed-requires : tie.Need-malformed-requires
 malformed-requires c κs = search needs
 
 returns-2 : tie.Need-returns-2
-returns-2 c = search needs
+returns-2 c = stopped 2 _ _ _ _ (c .malformed .ensures)
 
 pub block-spec : {M : Type 1} → statement M
 block-spec =

@@ -1,11 +1,11 @@
--- `trial::run::bits_sum` is safe and ends.
+-- `trial_steps::run::bits_sum` is safe and ends.
 -- The idea: after i entries the upper halves sum to at most 65,535 times i, and there are few enough for 32 bits. Assumes nothing.
 use Prim.Native.Nat.{_-_, _*_, _≤_}
 use native.Mathlib.Omega.{arith}
 use lib.ListN.{length}
 use borrow.Author.Needs.{needs}
-use Rattle.trial.proofs.run.bits_sum.Statement.{statement}
-use Rattle.trial.proofs.run.bits_sum.Tie as tie
+use Rattle.trial_steps.proofs.run.bits_sum.Statement.{statement}
+use Rattle.trial_steps.proofs.run.bits_sum.Tie as tie
 
 abbrev Inv-loop : tie.InvT-loop
 Inv-loop entries all₀ high₀ i₀ all high i = (i ≤ length entries) × (high ≤ 65535 * i)

@@ -1,4 +1,4 @@
--- `trial::run::clear` meets its contract.
+-- `trial_steps::run::clear` meets its contract.
 -- The idea: the entries up to i are zeros, and a zero is a number. Assumes nothing.
 use mathlib.Core.Path.{_≡_, refl, sym, subst, _∙_}
 use mathlib.Core.Bool.{Bool, true, false}
@@ -12,8 +12,8 @@ use lib.Ieee.{Float, nan, isNan, ofBits, binary32}
 use borrow.Author.Tests.{eqb-true, eqb-false}
 use Rattle.laws.proofs.NoNan.{Number}
 use borrow.Author.Needs.{needs}
-use Rattle.trial.proofs.run.clear.Statement.{statement}
-use Rattle.trial.proofs.run.clear.Tie as tie
+use Rattle.trial_steps.proofs.run.clear.Statement.{statement}
+use Rattle.trial_steps.proofs.run.clear.Tie as tie
 
 cleared : (xs : List Float) (i : ℕ) (z : Float) → Number z → i < length xs → ((j : ℕ) → j < i → Number (getD xs j nan))
     → (j : ℕ) → j < i + 1 → Number (getD (set xs i z) j nan)

@@ -1,10 +1,13 @@
--- `trial::steps::blocks` is safe: the entries that are lent are within the array, and few enough to be summed.
+-- `trial_steps::steps::blocks` is safe: the entries that are lent are within the array, and few enough to be summed.
 -- The idea: two channels of at most 4,096 frames. Assumes nothing.
+use mathlib.Core.Path.{ap}
+use Rattle.trial_steps.specs.declared.at.At.{At}
+use Rattle.trial_steps.proofs.Stepped.{stopped, after}
 use native.Mathlib.Omega.{arith}
 use lib.ListN.{length-take}
 use borrow.Author.Needs.{needs}
-use Rattle.trial.proofs.steps.blocks.Statement.{statement}
-use Rattle.trial.proofs.steps.blocks.Tie as tie
+use Rattle.trial_steps.proofs.steps.blocks.Statement.{statement}
+use Rattle.trial_steps.proofs.steps.blocks.Tie as tie
 
 asked-at-requires : tie.Need-asked-at-requires
 asked-at-requires c κs = search needs
@@ -28,13 +31,13 @@ same-length : tie.Need-same-length
 same-length c = search needs
 
 returns : tie.Need-returns
-returns c = search needs
+returns c = after 4 _ _ _ (ap (λ (a : At). a .leg) (c .before .before .before .read .ensures)) (c .before .before .sum-up .ensures)
 
 malformed-requires : tie.Need-malformed-requires
 malformed-requires c κs = search needs
 
 returns-2 : tie.Need-returns-2
-returns-2 c = search needs
+returns-2 c = stopped 4 _ _ _ _ (c .malformed .ensures)
 
 pub blocks-spec : {M : Type 1} → statement M
 blocks-spec =

@@ -1,6 +1,6 @@
--- `trial::run::run` is safe and ends: the bits that it sums are of no NaN.
+-- `trial_steps::run::run` meets its contract: its leg is rendered block after block, and the bits that it sums are of no NaN.
 -- The idea: the entries are zeros before each block, and no sample that a leg renders is a NaN (`render-numbers`). Assumes nothing.
-use mathlib.Core.Path.{_≡_, sym, ap, _∙_, subst}
+use mathlib.Core.Path.{_≡_, refl, sym, ap, _∙_, subst}
 use Prim.Native.Nat.{ℕ, _-_, _≤_, _<_}
 use native.Mathlib.Omega.{arith}
 use lib.ListN.{length}
@@ -8,15 +8,16 @@ use borrow.Author.Needs.{needs}
 use Rattle.sampler_voice.proofs.NoNan.{Numbers}
 use Rattle.sampler_processor.specs.Calls.{Rendered}
 use Rattle.sampler_processor.proofs.NoNan.{render-numbers}
-use Rattle.trial.proofs.run.run.Statement.{statement}
-use Rattle.trial.proofs.run.run.Tie as tie
+use Rattle.trial_steps.specs.Follows.{Follows, none, onceMore}
+use Rattle.trial_steps.proofs.run.run.Statement.{statement}
+use Rattle.trial_steps.proofs.run.run.Tie as tie
 
 less : (n m : ℕ) → 0 < n → m ≤ n - 1 → m < n
 less n m h k = omega arith
 
 abbrev Inv-loop : tie.InvT-loop
 Inv-loop rec table channels entries₀ block by last₀ at₀ blocks₀ pieces₀ sum₀ left₀ entries last at blocks pieces sum left =
-    (length entries ≡ length entries₀) × (length entries₀ ≤ 65536)
+    (length entries ≡ length entries₀) × (length entries₀ ≤ 65536) × Follows (last₀ .leg) 4 (last .leg)
 
 abbrev μ-loop : tie.MeasureT-loop
 μ-loop rec table channels entries₀ block by last₀ at₀ blocks₀ pieces₀ sum₀ left₀ entries last at blocks pieces sum left =
@@ -26,7 +27,7 @@ block-time-requires : tie.Need-block-time-requires Inv-loop μ-loop
 block-time-requires c κs = search needs
 
 loop-holds : tie.Need-loop-holds Inv-loop μ-loop
-loop-holds c = search needs
+loop-holds c = (refl, c .before .before .before .before .before .pre, none)
 
 clear-requires : tie.Need-clear-requires Inv-loop μ-loop
 clear-requires c κs = search needs
@@ -74,13 +75,13 @@ loop-again c =
     let r = c .before .before .before .before .before .before .before .before .before .before .render in
     let z = c .before .before .before .before .before .before .before .before .before .before .before .before .before .before .before .clear in
     let l = c .before .before .before .before .before .before .before .before .before .before .before .before .before .before .before .before .before .before .loop in
-    (r .kept .1 .1 .1 .1 .1 .0 ∙ z .kept .0 ∙ l .inv .0, l .inv .1)
+    (r .kept .1 .1 .1 .1 .1 .0 ∙ z .kept .0 ∙ l .inv .0, l .inv .1, subst (Follows _ 4) (sym (ap (λ (x : Rendered). x .answer .leg) (r .ensures))) (onceMore _ _ _ (l .inv .2)))
 
 same-length : tie.Need-same-length Inv-loop μ-loop
 same-length c = c .before .before .loop .inv .0
 
 returns : tie.Need-returns Inv-loop μ-loop
-returns c = search needs
+returns c = c .before .before .loop .inv .2
 
 pub run-spec : {M : Type 1} → statement M
 run-spec =

@@ -1,0 +1,2 @@
+-- Stepped: how a step's parts add up to it.
+pub mod Stepped
