@@ -25,7 +25,7 @@ abbrev pub ActiveFits : Active → Type 0
 ActiveFits Neither = Unit {0}
 ActiveFits (Number i) = i < 2
 
--- "numbers fit the fields": two voices, sixteen places, of which those past the count are blank
+-- its numbers fit the fields of docs/TRIAL.md: two voices, sixteen places, of which those past the count are blank
 pub record Fitting (l : Leg) : Type 0 where
   pub rate : l .setup .rate < 2 ^ 32
   pub channels : l .setup .channels < 2 ^ 8

@@ -67,7 +67,7 @@ fadePosition (FadingIn i) = i
 fadePosition Playing = 0
 fadePosition (FadingOut i) = i
 
--- "phase, fade position, position"
+-- its phase, fade position and position
 abbrev pub voiceBytes : Voice → List ℕ
 voiceBytes v = u8 (phaseNumber (v .phase)) ++ (u64 (fadePosition (v .phase)) ++ u64 (v .position))
 
