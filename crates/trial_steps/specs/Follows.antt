@@ -1,5 +1,5 @@
 -- What a step makes of a trial's leg: what the leg's own call hands back, or the leg that a file has; a step that is malformed leaves it. Definitions only.
-use Prim.Native.Nat.{ℕ}
+use Prim.Native.Nat.{ℕ, _≤_}
 use mathlib.Core.Path.{_≡_}
 use mathlib.Core.Bool.{true, false}
 use mathlib.Core.List.{List}
@@ -8,6 +8,7 @@ use lib.Ieee.{Float}
 use Rattle.sampler_player.specs.Pieces.{Lent}
 use Rattle.sampler_processor.specs.declared.Leg.{Leg}
 use Rattle.sampler_processor.specs.Calls.{submit, render}
+use Rattle.buffered.specs.Input.{held, numberAt}
 use Rattle.leg_bytes.specs.Read.{readLeg}
 use Rattle.trial_steps.specs.declared.at.At.{At}
 
@@ -23,3 +24,9 @@ pub data Follows (l : Leg) : ℕ → Leg → Type 0 where
 pub record Stepped (kind : ℕ) (a r : At) : Type 0 where
   pub ends : r .more ≡ false → r .leg ≡ a .leg
   pub goes : r .more ≡ true → Follows (a .leg) kind (r .leg)
+
+-- the next step, of a buffer s: which one it was, if it was taken, is what its byte says, where that is held already (no contract says what is read)
+pub record Taken (s : List ℕ) (a r : At) : Type 0 where
+  pub kind : ℕ
+  pub stepped : Stepped kind a r
+  pub byte : 1 ≤ held (a .input) → r .more ≡ true → kind ≡ numberAt s (a .input) 0 1

@@ -9,10 +9,10 @@ use buffered::input::Input;
 use buffered::output;
 use buffered::output::Output;
 ghost use mathlib.Core.Path.{_≡_};
-ghost use Prim.Native.Nat.{ℕ, _≤_};
+ghost use Prim.Native.Nat.{_≤_};
 ghost use lib.ListN.{length};
 ghost use Rattle.trial_steps.specs.Places.{endedBy};
-ghost use Rattle.trial_steps.specs.Follows.{Stepped};
+ghost use Rattle.trial_steps.specs.Follows.{Stepped, Taken};
 
 // The step's byte, at which it begins, is the next one.
 fn malformed(at: At) -> At
@@ -253,7 +253,7 @@ pub fn step(
     entries: &mut [f32],
     at: At,
 ) -> At
-    ensures { λ r. ⌜ ((kind : ℕ) × Stepped kind at r) ⌝ }
+    ensures { λ r. ⌜ Taken (now (source .entry)) at r ⌝ }
 {
     let from = at.input;
     let head = input::filled(source, from, 1);
