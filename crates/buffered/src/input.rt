@@ -83,8 +83,8 @@ fn move_down(buffer: &mut [u8], at: usize, n: usize)
 // Reads from `at` on, and answers how many bytes were read. Those before it stay.
 fn read_from(buffer: &mut [u8], at: usize) -> usize
     requires { at ≤ length buffer.old }
-    ensures fact_1 { at + result ≤ length buffer.old }
-    ensures fact_2 { take at buffer.new ≡ take at buffer.old }
+    ensures in_bounds { at + result ≤ length buffer.old }
+    ensures front_kept { take at buffer.new ≡ take at buffer.old }
 {
     io::read_full(0, &mut buffer[at..])
 }
@@ -112,8 +112,8 @@ pub fn filled(buffer: &mut [u8; 65536], input: Input, n: usize) -> Input
 // The number of n bytes, the first of them `skip` past the next one, the lowest first.
 pub fn number(buffer: &[u8; 65536], input: Input, skip: usize, n: usize) -> u64
     requires { n ≤ 8 }
-    ensures fact_1 { result ≡ number_at buffer.now input skip n }
-    ensures fact_2 { result < 256 ^ n }
+    ensures value { result ≡ number_at buffer.now input skip n }
+    ensures bound { result < 256 ^ n }
 {
     words::number(buffer, std::num::wrapping_add_usize(input.at, skip), n)
 }

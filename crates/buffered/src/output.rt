@@ -5,7 +5,7 @@ ghost use Rattle.std.specs.Float.{binary32};
 ghost use Rattle.words.specs.Digits.{bytes_of};
 ghost use Rattle.buffered.specs.Output.{spot, Put, put_floats};
 
-use libc::STDOUT_FILENO;
+const STDOUT: i32 = 1;
 
 // The bytes that the buffer holds, and whether every write so far was taken.
 #[derive(Drop)]
@@ -28,13 +28,13 @@ fn written(buffer: &[u8], n: usize) -> bool {
     if buffer.len() < n {
         return false;
     }
-    io::write_all(STDOUT_FILENO, &buffer[..n])
+    io::write_all(STDOUT, &buffer[..n])
 }
 
 // What the buffer holds is written out. What was refused before stays so.
 pub fn flushed(buffer: &[u8; 65536], output: Output) -> Output
-    ensures fact_1 { result.held ≡ 0 }
-    ensures fact_2 { (output.taken ≡ false → result.taken ≡ false) }
+    ensures emptied { result.held ≡ 0 }
+    ensures stays_refused { (output.taken ≡ false → result.taken ≡ false) }
 {
     if output.taken {
         return Output {
@@ -51,9 +51,9 @@ pub fn flushed(buffer: &[u8; 65536], output: Output) -> Output
 // Room for n bytes more, at most 65,536.
 fn room_for(buffer: &[u8; 65536], output: Output, n: usize) -> Output
     requires { n ≤ 65536 }
-    ensures fact_1 { result.held ≡ spot output.held n }
-    ensures fact_2 { (output.held + n ≤ 65536 → result.taken ≡ output.taken) }
-    ensures fact_3 { result.held + n ≤ 65536 }
+    ensures value { result.held ≡ spot output.held n }
+    ensures taken_kept { (output.held + n ≤ 65536 → result.taken ≡ output.taken) }
+    ensures room { result.held + n ≤ 65536 }
 {
     if output.held <= 65536 - n {
         output

@@ -40,8 +40,8 @@ pub struct Taken {
 // The array with the event at k: those from k on move up by one, the last of them over what stood
 // at n.
 fn moved_up(events: [Event; 16], k: usize, n: usize, event: Event) -> [Event; 16]
-    requires fact_1 { k ≤ n }
-    requires fact_2 { n < 16 }
+    requires k_bound { k ≤ n }
+    requires room { n < 16 }
     ensures { result ≡ take k events ++ event ∷ drop k (take n events) ++ drop (n + 1) events }
 {
     let mut out = events;

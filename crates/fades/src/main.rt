@@ -1,14 +1,14 @@
 // The fade table of 48,000 played through the leg's own calls: a start inside the recording fades in, a second one
 // across the first, and a stop out. Each event comes at frame 105 of a block of 4,096 frames. Of each block: its number
 // and its pieces, the bits before, in and after the fade, and a sum of all bits.
-use libc::STDOUT_FILENO;
+const STDOUT: i32 = 1;
 use sampler_processor::{Leg, LegAnswer};
 use timestamp::Timestamp;
 
 // A call that is refused is one line more.
 fn taken(answer: LegAnswer) -> Leg {
     if answer.number != 0 {
-        io::write_all(STDOUT_FILENO, b"refused\n");
+        io::write_all(STDOUT, b"refused\n");
     }
     answer.leg
 }
@@ -32,8 +32,8 @@ fn fill(rec: &mut [f32]) {
 }
 
 fn print(n: u64, width: usize) {
-    io::print_hex(STDOUT_FILENO, n, width);
-    io::write_all(STDOUT_FILENO, b"\n");
+    io::print_hex(STDOUT, n, width);
+    io::write_all(STDOUT, b"\n");
 }
 
 fn print_chosen(samples: &[f32], chosen: &[usize]) {

@@ -1,13 +1,13 @@
 // Document 01's "Frames to check" through the leg's own calls: renders m10 and m11 in buffers of its
 // own and prints the bits of m10's five samples, then of m11's frames 150 to 153.
-use libc::STDOUT_FILENO;
+const STDOUT: i32 = 1;
 use sampler_processor::{Leg, LegAnswer};
 use timestamp::Timestamp;
 
 // A call that is refused is one line more.
 fn taken(answer: LegAnswer) -> Leg {
     if answer.number != 0 {
-        io::write_all(STDOUT_FILENO, b"refused\n");
+        io::write_all(STDOUT, b"refused\n");
     }
     answer.leg
 }
@@ -22,8 +22,8 @@ fn told(leg: Leg, kind: u8, first: Timestamp, second: Timestamp) -> Leg {
 }
 
 fn print(x: f32) {
-    io::print_hex(STDOUT_FILENO, words::float_bits(x) as u64, 8);
-    io::write_all(STDOUT_FILENO, b"\n");
+    io::print_hex(STDOUT, words::float_bits(x) as u64, 8);
+    io::write_all(STDOUT, b"\n");
 }
 
 fn print_samples(samples: &[f32], from: usize, to: usize) {

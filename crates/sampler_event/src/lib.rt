@@ -192,10 +192,10 @@ fn least_frames(fade: usize) -> usize
 
 // Number 12, of points that pass 11: so the product stays below 2^59.
 pub fn loop_short(start: Timestamp, end: Timestamp, rate: usize, fade: usize) -> bool
-    requires fact_1 { place_bad start.bits ≡ false }
-    requires fact_2 { place_bad end.bits ≡ false }
-    requires fact_3 { rate ≤ 96000 }
-    requires fact_4 { fade ≤ 4800 }
+    requires start_good { place_bad start.bits ≡ false }
+    requires end_good { place_bad end.bits ≡ false }
+    requires fast { rate ≤ 96000 }
+    requires fade_bound { fade ≤ 4800 }
     ensures { result ≡ loop_short rate fade start.bits end.bits }
 {
     let a = units(start);
@@ -238,9 +238,9 @@ impl Kind {
 
     // Number 12.
     fn loop_bad(self, rate: usize, fade: usize) -> bool
-        requires fact_1 { positions_bad self ≡ false }
-        requires fact_2 { rate ≤ 96000 }
-        requires fact_3 { fade ≤ 4800 }
+        requires positions_good { positions_bad self ≡ false }
+        requires fast { rate ≤ 96000 }
+        requires fade_bound { fade ≤ 4800 }
         ensures { result ≡ loop_bad rate fade self }
     {
         match self {
@@ -257,8 +257,8 @@ impl Kind {
 impl Event {
     // What refuses an event by itself: 10, 11, 12, or 0 for nothing.
     pub fn fault(self, rate: usize, fade: usize) -> u8
-        requires fact_1 { rate ≤ 96000 }
-        requires fact_2 { fade ≤ 4800 }
+        requires fast { rate ≤ 96000 }
+        requires fade_bound { fade ≤ 4800 }
         ensures { result ≡ event_fault rate fade self }
     {
         let kind = self.kind;
@@ -276,8 +276,8 @@ impl Event {
 
     // Whether an event is one that a command can have entered.
     pub fn admissible(self, rate: usize, fade: usize) -> bool
-        requires fact_1 { rate ≤ 96000 }
-        requires fact_2 { fade ≤ 4800 }
+        requires fast { rate ≤ 96000 }
+        requires fade_bound { fade ≤ 4800 }
         ensures { result ≡ admissible rate fade self }
     {
         let kind = self.kind;
@@ -331,10 +331,10 @@ fn wide(byte: u8) -> u64
 
 // The number of n bytes from at on, the lowest first. Each of them is read once.
 fn little(bytes: &[u8], at: usize, n: usize) -> u64
-    requires fact_1 { n ≤ 8 }
-    requires fact_2 { at + n ≤ length bytes.now }
-    ensures fact_1 { result ≡ little (take n (drop at bytes.now)) }
-    ensures fact_2 { result < 256 ^ n }
+    requires few_bytes { n ≤ 8 }
+    requires in_bounds { at + n ≤ length bytes.now }
+    ensures value { result ≡ little (take n (drop at bytes.now)) }
+    ensures bound { result < 256 ^ n }
 {
     let mut number: u64 = 0;
     let mut i = n;
@@ -417,8 +417,8 @@ impl Record {
 
 // A record's event, or what refuses it: 13, 10, 11, 12 in this order.
 pub fn command(bytes: &[u8], rate: usize, fade: usize) -> EventAnswer
-    requires fact_1 { rate ≤ 96000 }
-    requires fact_2 { fade ≤ 4800 }
+    requires fast { rate ≤ 96000 }
+    requires fade_bound { fade ≤ 4800 }
     ensures { result ≡ command_answer rate fade bytes.now }
 {
     if bytes.len() != 26 {

@@ -25,8 +25,8 @@ fn bits_8000() -> [u32; 400]
 
 // The float of each pattern. Below the infinity's, no pattern is a NaN's.
 fn fill(table: &mut [f32], bits: &[u32])
-    requires table_len { length table.old ≡ length bits.now }
-    requires by_index { (i : ℕ) → get_or bits.now i 0 < 0x7f80_0000 }
+    requires same_length { length table.old ≡ length bits.now }
+    requires below_infinity { (i : ℕ) → get_or bits.now i 0 < 0x7f80_0000 }
     ensures { table.new ≡ table_of bits.now }
 {
     let mut i = 0;
@@ -107,9 +107,9 @@ fn fade_out_value(fade: &[f32], position: usize) -> f32
 
 // The lookup that the voice calls: one loop serves both fades.
 pub fn fade_value(fade: &[f32], rising: bool, position: usize) -> f32
-    requires position_in_bounds { rising ≡ true → position < length fade.now }
-    requires position_nonzero { rising ≡ false → 0 < position }
-    requires position_in_bounds_2 { position ≤ length fade.now }
+    requires rising_in_bounds { rising ≡ true → position < length fade.now }
+    requires falling_nonzero { rising ≡ false → 0 < position }
+    requires position_in_bounds { position ≤ length fade.now }
     ensures { result ≡ cond rising (fade_in fade.now position) (fade_out fade.now position) }
 {
     if rising {

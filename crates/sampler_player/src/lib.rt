@@ -71,9 +71,9 @@ impl Player {
 
     // What an event does; delay is the current time less the event's.
     pub fn apply(self, kind: Kind, delay: Timestamp, rate: usize) -> Player
-        requires fact_1 { rate ≤ 96000 }
-        requires fact_2 { positions_bad kind ≡ false }
-        requires fact_3 { nat_abs delay.bits ≤ 2 ^ 49 }
+        requires fast { rate ≤ 96000 }
+        requires positions_good { positions_bad kind ≡ false }
+        requires delay_bound { nat_abs delay.bits ≤ 2 ^ 49 }
         ensures { result ≡ apply rate kind delay.bits self }
     {
         match kind {
@@ -164,9 +164,9 @@ impl Player {
     }
 
     fn start(self, from: Timestamp, delay: Timestamp, rate: usize) -> Player
-        requires fact_1 { rate ≤ 96000 }
-        requires fact_2 { place_bad from.bits ≡ false }
-        requires fact_3 { nat_abs delay.bits ≤ 2 ^ 49 }
+        requires fast { rate ≤ 96000 }
+        requires from_good { place_bad from.bits ≡ false }
+        requires delay_bound { nat_abs delay.bits ≤ 2 ^ 49 }
         ensures { result ≡ begun from delay.bits (assign (clock_at rate) (from.bits +ℤ delay.bits) self) }
     {
         let at = sum(from, delay);

@@ -34,10 +34,10 @@ fn half_frame(rate: usize) -> usize
 
 // E with a loop, up to the last stop: first + length · completed, or LATE where that would be more.
 fn loop_end(first: Timestamp, length: usize, completed: usize) -> Timestamp
-    requires fact_1 { 0 < length }
-    requires fact_2 { nat_abs first.bits ≤ 2 ^ 42 }
-    ensures fact_1 { earlier last_stop result.bits ≡ earlier last_stop (first.bits +ℤ pos (length * completed)) }
-    ensures fact_2 { nat_abs result.bits ≤ 2 ^ 49 + 2 ^ 42 }
+    requires length_nonzero { 0 < length }
+    requires first_bound { nat_abs first.bits ≤ 2 ^ 42 }
+    ensures value { earlier last_stop result.bits ≡ earlier last_stop (first.bits +ℤ pos (length * completed)) }
+    ensures bound { nat_abs result.bits ≤ 2 ^ 49 + 2 ^ 42 }
 {
     if completed <= LATE / length {
         sum(first, time_at(length * completed))
@@ -48,12 +48,12 @@ fn loop_end(first: Timestamp, length: usize, completed: usize) -> Timestamp
 
 // How many loops of this length reach from the first end to the position, and half a frame on.
 fn loops_due(position: Timestamp, first: Timestamp, length: usize, rate: usize) -> usize
-    requires le_rate_1 { 8000 ≤ rate }
-    requires le_rate_2 { rate ≤ 96000 }
-    requires le_rate_3 { nat_abs position.bits ≤ 2 ^ 49 }
-    requires le_rate_4 { nat_abs first.bits ≤ 2 ^ 42 }
-    requires length_nonzero_1 { 0 < length }
-    requires length_nonzero_2 { length ≤ 2 ^ 42 }
+    requires slow { 8000 ≤ rate }
+    requires fast { rate ≤ 96000 }
+    requires position_bound { nat_abs position.bits ≤ 2 ^ 49 }
+    requires first_bound { nat_abs first.bits ≤ 2 ^ 42 }
+    requires length_nonzero { 0 < length }
+    requires length_bound { length ≤ 2 ^ 42 }
     ensures { result ≡ reaching length (not_negative (position.bits -ℤ first.bits +ℤ pos (half_frame rate))) }
 {
     let past = difference(position, first);
@@ -65,12 +65,12 @@ fn loops_due(position: Timestamp, first: Timestamp, length: usize, rate: usize) 
 impl Player {
     // E, up to the last stop.
     fn next_loop_position(self, setup: Setup) -> Timestamp
-        requires fact_1 { 8000 ≤ setup.rate }
-        requires fact_2 { setup.rate ≤ 96000 }
-        requires fact_3 { setup.frames ≤ 4194304 }
-        requires fact_4 { kept setup 0 self ≡ true }
-        ensures fact_1 { earlier last_stop result.bits ≡ nearer (clock_at setup.rate) setup last_stop (end_of (clock_at setup.rate) setup self self.points) }
-        ensures fact_2 { nat_abs result.bits ≤ 2 ^ 49 + 2 ^ 42 }
+        requires slow { 8000 ≤ setup.rate }
+        requires fast { setup.rate ≤ 96000 }
+        requires short { setup.frames ≤ 4194304 }
+        requires player_kept { kept setup 0 self ≡ true }
+        ensures value { earlier last_stop result.bits ≡ nearer (clock_at setup.rate) setup last_stop (end_of (clock_at setup.rate) setup self self.points) }
+        ensures bound { nat_abs result.bits ≤ 2 ^ 49 + 2 ^ 42 }
     {
         let points = self.points;
         match points {
@@ -85,11 +85,11 @@ impl Player {
 
     // The frames of the next piece: up to E, and at most those that remain.
     pub fn interval(self, setup: Setup, remaining: usize) -> usize
-        requires fact_1 { 8000 ≤ setup.rate }
-        requires fact_2 { setup.rate ≤ 96000 }
-        requires fact_3 { setup.frames ≤ 4194304 }
-        requires fact_4 { remaining ≤ 4096 }
-        requires fact_5 { kept setup remaining self ≡ true }
+        requires slow { 8000 ≤ setup.rate }
+        requires fast { setup.rate ≤ 96000 }
+        requires short { setup.frames ≤ 4194304 }
+        requires remaining_bound { remaining ≤ 4096 }
+        requires player_kept { kept setup remaining self ≡ true }
         ensures { result ≡ interval (clock_at setup.rate) setup self remaining }
     {
         let rate = setup.rate;
@@ -128,9 +128,9 @@ impl Player {
 
     // The passes that only catch up, at one stroke.
     pub fn catch_up(self, setup: Setup) -> Player
-        requires fact_1 { 8000 ≤ setup.rate }
-        requires fact_2 { setup.rate ≤ 96000 }
-        requires fact_3 { kept setup 0 self ≡ true }
+        requires slow { 8000 ≤ setup.rate }
+        requires fast { setup.rate ≤ 96000 }
+        requires player_kept { kept setup 0 self ≡ true }
         ensures { result ≡ stroke_of setup.rate self }
     {
         let points = self.points;
@@ -163,8 +163,8 @@ impl Player {
         channels: usize,
     ) -> Player
         requires ready { Ready setup (lending rec.now fade.now channels block) out.old }
-        requires n_bound_1 { at + n ≤ block }
-        requires n_bound_2 { kept setup n self ≡ true }
+        requires within_block { at + n ≤ block }
+        requires player_kept { kept setup n self ≡ true }
         ensures { ending result out.new 1 ≡ left_by (rendered (clock_at setup.rate) setup (lending rec.now fade.now channels block) n (starting self out.old at n)) }
     {
         let sides = Channels {
@@ -204,8 +204,8 @@ impl Player {
         channels: usize,
     ) -> Played
         requires ready { Ready setup (lending rec.now fade.now channels block) out.old }
-        requires remaining_bound_1 { at + remaining ≤ block }
-        requires remaining_bound_2 { kept setup (block - at) self ≡ true }
+        requires within_block { at + remaining ≤ block }
+        requires player_kept { kept setup (block - at) self ≡ true }
         ensures { ending result.player out.new result.pieces ≡ left_by (segment (clock_at setup.rate) setup (lending rec.now fade.now channels block) (starting self out.old at remaining)) }
     {
         let mut player = self;

@@ -39,10 +39,10 @@ pub struct BlockEnd {
 
 // A time n frames later.
 fn frames_later(t: Timestamp, n: usize, rate: usize) -> Timestamp
-    requires fact_1 { 8000 ≤ rate }
-    requires fact_2 { rate ≤ 96000 }
-    requires fact_3 { n ≤ 4096 }
-    requires fact_4 { T (within (pos 0) (pos (2 ^ 49)) t.bits) }
+    requires slow { 8000 ≤ rate }
+    requires fast { rate ≤ 96000 }
+    requires n_bound { n ≤ 4096 }
+    requires t_within { T (within (pos 0) (pos (2 ^ 49)) t.bits) }
     ensures { result.bits ≡ t.bits +ℤ time_of rate n }
 {
     let by = timestamp::time_of(n, rate);
@@ -52,10 +52,10 @@ fn frames_later(t: Timestamp, n: usize, rate: usize) -> Timestamp
 
 // Whether an event is due in the block. Its end is worked out only where one waits.
 pub fn any_due(queue: Queue, start: Timestamp, block: usize, rate: usize) -> bool
-    requires fact_1 { 8000 ≤ rate }
-    requires fact_2 { rate ≤ 96000 }
-    requires fact_3 { block ≤ 4096 }
-    requires fact_4 { T (within (pos 0) (pos (2 ^ 49)) start.bits) }
+    requires slow { 8000 ≤ rate }
+    requires fast { rate ≤ 96000 }
+    requires block_bound { block ≤ 4096 }
+    requires start_within { T (within (pos 0) (pos (2 ^ 49)) start.bits) }
     ensures { result ≡ is_due (first_before (start.bits +ℤ time_of rate block) (pending queue)) }
 {
     let n = queue.count;
@@ -68,10 +68,10 @@ pub fn any_due(queue: Queue, start: Timestamp, block: usize, rate: usize) -> boo
 
 // The frame of an event: the floor of S, from the block's start to the later of its time and now.
 fn event_frame(start: Timestamp, now: Timestamp, time: Timestamp, rate: usize) -> usize
-    requires fact_1 { rate ≤ 96000 }
-    requires fact_2 { T (within (pos 0) (pos (2 ^ 49)) start.bits) }
-    requires fact_3 { T (within (pos 0) (pos (2 ^ 49)) now.bits) }
-    requires fact_4 { T (within (pos 0) (pos (2 ^ 49)) time.bits) }
+    requires fast { rate ≤ 96000 }
+    requires start_within { T (within (pos 0) (pos (2 ^ 49)) start.bits) }
+    requires now_within { T (within (pos 0) (pos (2 ^ 49)) now.bits) }
+    requires time_within { T (within (pos 0) (pos (2 ^ 49)) time.bits) }
     ensures { result ≡ frame_of rate start.bits now.bits time.bits }
 {
     let mut at = time;
@@ -95,11 +95,11 @@ fn up_to(
     start: Timestamp,
 ) -> Stand
     requires ready { Ready setup (lending rec.now fade.now channels block) out.old }
-    requires done_le_frame_1 { at.done ≤ frame }
-    requires done_le_frame_2 { frame ≤ block }
-    requires done_le_frame_3 { kept setup (block - at.done) at.player ≡ true }
-    requires t_1 { T (within (pos 0) (pos (2 ^ 49)) at.now.bits) }
-    requires t_2 { at.pieces ≤ 2 ^ 32 }
+    requires not_past { at.done ≤ frame }
+    requires within_block { frame ≤ block }
+    requires player_kept { kept setup (block - at.done) at.player ≡ true }
+    requires now_within { T (within (pos 0) (pos (2 ^ 49)) at.now.bits) }
+    requires pieces_bound { at.pieces ≤ 2 ^ 32 }
     ensures { running result out.new ≡ up_to setup (lending rec.now fade.now channels block) start.bits frame (running at out.old) }
 {
     let n = frame - at.done;
@@ -116,9 +116,9 @@ fn up_to(
 
 // An event, applied where the block stands.
 fn applied_to(at: Stand, event: Event, rate: usize) -> Stand
-    requires fact_1 { rate ≤ 96000 }
-    requires fact_2 { positions_bad event.kind ≡ false }
-    requires fact_3 { T (within (neg_ℤ (pos (2 ^ 20))) (pos (2 ^ 49)) (at.now.bits -ℤ event.time.bits)) }
+    requires fast { rate ≤ 96000 }
+    requires positions_good { positions_bad event.kind ≡ false }
+    requires delay_within { T (within (neg_ℤ (pos (2 ^ 20))) (pos (2 ^ 49)) (at.now.bits -ℤ event.time.bits)) }
     ensures { result ≡ applied_to rate event at }
 {
     let now = at.now;
@@ -169,10 +169,10 @@ pub fn run_block(
     start: Timestamp,
 ) -> BlockEnd
     requires ready { Ready setup (lending rec.now fade.now channels block) out.old }
-    requires block_nonzero_1 { 0 < block }
-    requires block_nonzero_2 { T (within (pos 0) (pos (2 ^ 48)) start.bits) }
-    requires player_value_1 { kept setup block player ≡ true }
-    requires player_value_2 { queue_good setup queue ≡ true }
+    requires block_nonzero { 0 < block }
+    requires start_within { T (within (pos 0) (pos (2 ^ 48)) start.bits) }
+    requires player_kept { kept setup block player ≡ true }
+    requires queue_sound { queue_good setup queue ≡ true }
     ensures { record { end = result; out = out.new } ≡ left_of (block_of setup (lending rec.now fade.now channels block) start.bits (pending queue) queue (opening player out.old start.bits)) }
 {
     let end = frames_later(start, block, setup.rate);

@@ -174,10 +174,10 @@ impl Leg {
         start: Timestamp,
     ) -> RenderAnswer
         requires ready { Ready self.setup (lending rec.now table.now channels block) out.old }
-        requires block_nonzero_1 { 0 < block }
-        requires block_nonzero_2 { T (within (pos 0) (pos (2 ^ 48)) start.bits) }
-        requires player_value_1 { kept self.setup block self.player ≡ true }
-        requires player_value_2 { queue_good self.setup self.queue ≡ true }
+        requires block_nonzero { 0 < block }
+        requires start_within { T (within (pos 0) (pos (2 ^ 48)) start.bits) }
+        requires player_kept { kept self.setup block self.player ≡ true }
+        requires queue_sound { queue_good self.setup self.queue ≡ true }
         ensures { record { answer = result; out = out.new } ≡ rendered_by 0 self (lending rec.now table.now channels block) out.old start.bits }
     {
         let setup = self.setup;
@@ -209,8 +209,8 @@ impl Leg {
         block: usize,
         out: &mut [f32],
     ) -> RenderAnswer
-        requires fact_1 { Ready self.setup (lending rec.now table.now channels block) out.old }
-        requires fact_2 { kept self.setup block self.player ≡ true }
+        requires ready { Ready self.setup (lending rec.now table.now channels block) out.old }
+        requires player_kept { kept self.setup block self.player ≡ true }
         ensures { record { answer = result; out = out.new } ≡ rendered_on self (segment (clock_at self.setup.rate) self.setup (lending rec.now table.now channels block) (starting self.player out.old 0 block)) }
     {
         let setup = self.setup;

@@ -76,8 +76,8 @@ fn voices_good(voices: [Voice; 2], fade: usize) -> bool
 
 // 11 and then 12, which asks for points that pass 11.
 fn points_good(points: Points, s: Setup) -> bool
-    requires fact_1 { s.rate ≤ 96000 }
-    requires fact_2 { s.fade ≤ 4800 }
+    requires fast { s.rate ≤ 96000 }
+    requires fade_bound { s.fade ≤ 4800 }
     ensures { result ≡ points_good s points }
 {
     match points {
@@ -95,8 +95,8 @@ fn points_good(points: Points, s: Setup) -> bool
 }
 
 fn loop_good(p: Player, s: Setup) -> bool
-    requires fact_1 { s.rate ≤ 96000 }
-    requires fact_2 { s.fade ≤ 4800 }
+    requires fast { s.rate ≤ 96000 }
+    requires fade_bound { s.fade ≤ 4800 }
     ensures { result ≡ loop_good s p }
 {
     let start = p.start;
@@ -106,8 +106,8 @@ fn loop_good(p: Player, s: Setup) -> bool
 }
 
 pub fn player_good(p: Player, s: Setup) -> bool
-    requires fact_1 { s.rate ≤ 96000 }
-    requires fact_2 { s.fade ≤ 4800 }
+    requires fast { s.rate ≤ 96000 }
+    requires fade_bound { s.fade ≤ 4800 }
     ensures { result ≡ player_good s p }
 {
     let voices = p.voices;
@@ -130,8 +130,8 @@ fn not_later(a: Timestamp, b: Timestamp) -> bool
 
 // Each event that waits is admissible, and none is earlier than the one before it.
 pub fn queue_good(q: Queue, s: Setup) -> bool
-    requires fact_1 { s.rate ≤ 96000 }
-    requires fact_2 { s.fade ≤ 4800 }
+    requires fast { s.rate ≤ 96000 }
+    requires fade_bound { s.fade ≤ 4800 }
     ensures { result ≡ queue_good s q }
 {
     let n = q.count;

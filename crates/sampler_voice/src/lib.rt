@@ -139,10 +139,10 @@ impl Voice {
         fade: &[f32],
         channels: Channels,
     ) -> Voice
-        requires room { Room channels.output n out.old }
-        requires room_2 { Room channels.recording rn rec.now }
-        requires k_bound { j + k ≤ n }
-        requires k_bound_2 { self.position + k < 2 ^ 62 }
+        requires output_room { Room channels.output n out.old }
+        requires recording_room { Room channels.recording rn rec.now }
+        requires within_output { j + k ≤ n }
+        requires position_bound { self.position + k < 2 ^ 62 }
         ensures { lent result out.new ≡ frames rec.now rn fade.now n channels j k (lent self out.old) }
     {
         if k == 0 {
@@ -185,9 +185,9 @@ impl Voices {
         fade: &[f32],
         channels: Channels,
     ) -> Voices
-        requires room { Room channels.output n out.old }
-        requires room_2 { Room channels.recording rn rec.now }
-        requires k_bound { j + k ≤ n }
+        requires output_room { Room channels.output n out.old }
+        requires recording_room { Room channels.recording rn rec.now }
+        requires within_output { j + k ≤ n }
         requires ahead { Ahead k self.voices }
         ensures { lent_all result.voices out.new ≡ mix rec.now rn fade.now n channels j k self.voices out.old }
     {

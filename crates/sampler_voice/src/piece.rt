@@ -21,10 +21,10 @@ fn play(
     channels: Channels,
     k: usize,
 )
-    requires room { Room channels.output n out.old }
-    requires room_2 { Room channels.recording rn rec.now }
-    requires k_bound { j + k ≤ n }
-    requires k_bound_2 { p + k ≤ rn }
+    requires output_room { Room channels.output n out.old }
+    requires recording_room { Room channels.recording rn rec.now }
+    requires within_output { j + k ≤ n }
+    requires within_recording { p + k ≤ rn }
     ensures { out.new ≡ run rec.now rn fade.now n channels Phase.Playing p j k out.old }
 {
     let mut i = 0;
@@ -48,12 +48,12 @@ fn fade_along(
     channels: Channels,
     k: usize,
 )
-    requires room { Room channels.output n out.old }
-    requires room_2 { Room channels.recording rn rec.now }
-    requires k_bound { j + k ≤ n }
-    requires k_bound_2 { p + k ≤ rn }
-    requires k_in_bounds { f + k ≤ length fade.now }
-    requires f_nonzero { rising ≡ false → 0 < f }
+    requires output_room { Room channels.output n out.old }
+    requires recording_room { Room channels.recording rn rec.now }
+    requires within_output { j + k ≤ n }
+    requires within_recording { p + k ≤ rn }
+    requires within_fade { f + k ≤ length fade.now }
+    requires falling_nonzero { rising ≡ false → 0 < f }
     ensures { out.new ≡ run rec.now rn fade.now n channels (fading rising f) p j k out.old }
 {
     let mut i = 0;
@@ -91,9 +91,9 @@ pub fn render_playing(
     channels: Channels,
     k: usize,
 )
-    requires room { Room channels.output n out.old }
-    requires room_2 { Room channels.recording rn rec.now }
-    requires k_bound { j + k ≤ n }
+    requires output_room { Room channels.output n out.old }
+    requires recording_room { Room channels.recording rn rec.now }
+    requires within_output { j + k ≤ n }
     ensures { out.new ≡ run rec.now rn fade.now n channels Phase.Playing p j k out.old }
 {
     if p < rn {
@@ -116,11 +116,11 @@ fn fade_from(
     channels: Channels,
     k: usize,
 )
-    requires room { Room channels.output n out.old }
-    requires room_2 { Room channels.recording rn rec.now }
-    requires k_bound { j + k ≤ n }
-    requires k_bound_2 { p + k ≤ rn }
-    requires k_in_bounds { f + k ≤ length fade.now }
+    requires output_room { Room channels.output n out.old }
+    requires recording_room { Room channels.recording rn rec.now }
+    requires within_output { j + k ≤ n }
+    requires within_recording { p + k ≤ rn }
+    requires within_fade { f + k ≤ length fade.now }
     ensures { out.new ≡ run rec.now rn fade.now n channels (fading rising f) p j k out.old }
 {
     if rising {
@@ -163,10 +163,10 @@ fn render_fade(
     channels: Channels,
     k: usize,
 )
-    requires room { Room channels.output n out.old }
-    requires room_2 { Room channels.recording rn rec.now }
-    requires k_bound { j + k ≤ n }
-    requires k_in_bounds { f + k ≤ length fade.now }
+    requires output_room { Room channels.output n out.old }
+    requires recording_room { Room channels.recording rn rec.now }
+    requires within_output { j + k ≤ n }
+    requires within_fade { f + k ≤ length fade.now }
     ensures { out.new ≡ run rec.now rn fade.now n channels (fading rising f) p j k out.old }
 {
     if p < rn {
@@ -188,11 +188,11 @@ pub fn render_in(
     i: usize,
     channels: Channels,
 ) -> Voice
-    requires room { Room channels.output n out.old }
-    requires room_2 { Room channels.recording rn rec.now }
-    requires k_bound { j + k ≤ n }
-    requires k_nonzero { 0 < k }
-    requires k_bound_2 { p + k < 2 ^ 62 }
+    requires output_room { Room channels.output n out.old }
+    requires recording_room { Room channels.recording rn rec.now }
+    requires within_output { j + k ≤ n }
+    requires some_frames { 0 < k }
+    requires position_bound { p + k < 2 ^ 62 }
     ensures { lent result out.new ≡ frames rec.now rn fade.now n channels j k (heard p (Phase.FadingIn i) out.old) }
 {
     let position = p + k;
@@ -237,11 +237,11 @@ pub fn render_out(
     i: usize,
     channels: Channels,
 ) -> Voice
-    requires room { Room channels.output n out.old }
-    requires room_2 { Room channels.recording rn rec.now }
-    requires k_bound { j + k ≤ n }
-    requires k_nonzero { 0 < k }
-    requires k_bound_2 { p + k < 2 ^ 62 }
+    requires output_room { Room channels.output n out.old }
+    requires recording_room { Room channels.recording rn rec.now }
+    requires within_output { j + k ≤ n }
+    requires some_frames { 0 < k }
+    requires position_bound { p + k < 2 ^ 62 }
     ensures { lent result out.new ≡ frames rec.now rn fade.now n channels j k (heard p (Phase.FadingOut i) out.old) }
 {
     let all = fade.len();

@@ -25,8 +25,8 @@ fn sample(rec: &[f32], i: usize) -> f32
 }
 
 pub fn fetch(rec: &[f32], rn: usize, channels: Channels, p: usize) -> Pair
-    requires room { Room channels.recording rn rec.now }
-    requires p_lt_rn { p < rn }
+    requires recording_room { Room channels.recording rn rec.now }
+    requires within_recording { p < rn }
     ensures { result ≡ fetched rec.now rn channels p }
 {
     if channels.both() {
@@ -50,8 +50,8 @@ fn add_at(out: &mut [f32], i: usize, x: f32)
 }
 
 pub fn put(out: &mut [f32], n: usize, channels: Channels, j: usize, p: Pair)
-    requires room { Room channels.output n out.old }
-    requires j_lt_n { j < n }
+    requires output_room { Room channels.output n out.old }
+    requires within_output { j < n }
     ensures { out.new ≡ added n channels j p out.old }
 {
     add_at(out, j, p.left);

@@ -69,8 +69,8 @@ fn to_seconds(t: i64) -> f64
 // sum with 2^52 is that rounding, since from there to 2^53 an f64 is a whole number. From 2^52 on z
 // is whole.
 fn nearest_whole(z: f64) -> u64
-    requires fact_1 { T (positive z) }
-    requires fact_2 { T (Ieee.lt z (fin false 1 (pos 64))) }
+    requires above_zero { T (positive z) }
+    requires below_limit { T (Ieee.lt z (fin false 1 (pos 64))) }
     ensures { result ≡ closest (num z) (den z) }
 {
     if z < 4503599627370496.0 {
@@ -82,8 +82,8 @@ fn nearest_whole(z: f64) -> u64
 
 // a seconds, above zero and at most 2^31, in units. The product is exact.
 fn to_units(a: f64) -> u64
-    requires fact_1 { T (positive a) }
-    requires fact_2 { T (Ieee.le a (fin false 1 (pos 31))) }
+    requires above_zero { T (positive a) }
+    requires below_limit { T (Ieee.le a (fin false 1 (pos 31))) }
     ensures { result ≡ closest (num a * 2 ^ 32) (den a) }
 {
     nearest_whole(a * 4294967296.0)
@@ -381,9 +381,9 @@ impl Timestamp {
 
 // T of a whole number of frames.
 pub fn time_of(frames: usize, rate: usize) -> Timestamp
-    requires fact_1 { 8000 ≤ rate }
-    requires fact_2 { rate ≤ 96000 }
-    requires fact_3 { frames ≤ 2 ^ 40 }
+    requires slow { 8000 ≤ rate }
+    requires fast { rate ≤ 96000 }
+    requires few { frames ≤ 2 ^ 40 }
     ensures { result.bits ≡ time_of rate frames }
 {
     let made = Timestamp::from_seconds((frames as f64) / (rate as f64));

@@ -2,7 +2,7 @@
 // the leg answered. A malformed one ends the program with a line on standard error.
 use buffered::input::Input;
 use buffered::{input, output};
-use libc::STDERR_FILENO;
+const STDERR: i32 = 2;
 use sampler_processor::Leg;
 use trial_steps::at::At;
 use trial_steps::{at, steps};
@@ -160,11 +160,11 @@ fn next(
 // ---- the end
 
 fn malformed(what: &[u8], at: u64) {
-    io::write_all(STDERR_FILENO, b"malformed ");
-    io::write_all(STDERR_FILENO, what);
-    io::write_all(STDERR_FILENO, b" at byte ");
-    io::print_decimal(STDERR_FILENO, at);
-    io::write_all(STDERR_FILENO, b"\n");
+    io::write_all(STDERR, b"malformed ");
+    io::write_all(STDERR, what);
+    io::write_all(STDERR, b" at byte ");
+    io::print_decimal(STDERR, at);
+    io::write_all(STDERR, b"\n");
 }
 
 // What is left is written, and what went wrong said.
@@ -178,7 +178,7 @@ fn end(sink: &[u8; 65536], at: At) {
     let before = at.output;
     let last = output::flushed(sink, before);
     if !last.taken {
-        io::write_all(STDERR_FILENO, b"the answers could not be written\n");
+        io::write_all(STDERR, b"the answers could not be written\n");
     }
 }
 

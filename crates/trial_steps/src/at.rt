@@ -121,8 +121,8 @@ pub fn answered(at: At, output: Output, leg: Leg) -> At
 
 // The leg at the end of an answer.
 pub fn closed(sink: &mut [u8; 65536], at: At, output: Output, leg: Leg) -> At
-    ensures fact_1 { result.more ≡ true }
-    ensures fact_2 { result.leg ≡ leg }
+    ensures goes_on { result.more ≡ true }
+    ensures leg_kept { result.leg ≡ leg }
 {
     let bytes = leg_bytes::bytes_of(leg);
     answered(at, output::put_bytes(sink, output, &bytes), leg)

@@ -54,8 +54,8 @@ fn bits(x: f32) -> u32
 // The sum of the entries' bits; none is a NaN. In words of one width: the sum mod 2^32, and that of the upper halves,
 // which together tell the sum of the lower ones.
 fn bits_sum(entries: &[f32]) -> u64
-    requires fact_1 { length entries.now ≤ 65536 }
-    requires fact_2 { Numbers entries.now }
+    requires length_bound { length entries.now ≤ 65536 }
+    requires numbers { Numbers entries.now }
 {
     let mut all: u32 = 0;
     let mut high: u32 = 0;

@@ -5,7 +5,7 @@ mod calls;
 mod queue;
 mod row;
 
-use libc::STDOUT_FILENO;
+const STDOUT: i32 = 1;
 use queue::{Judged, State};
 use row::Row;
 
@@ -32,13 +32,13 @@ fn print_count(op: usize, c: Count) {
     if c.rows == 0 {
         return;
     }
-    io::write_all(STDOUT_FILENO, b"op ");
-    io::print_hex(STDOUT_FILENO, op as u64, 2);
-    io::write_all(STDOUT_FILENO, b": ");
-    io::print_decimal(STDOUT_FILENO, c.rows);
-    io::write_all(STDOUT_FILENO, b" compared, ");
-    io::print_decimal(STDOUT_FILENO, c.differ);
-    io::write_all(STDOUT_FILENO, b" differ\n");
+    io::write_all(STDOUT, b"op ");
+    io::print_hex(STDOUT, op as u64, 2);
+    io::write_all(STDOUT, b": ");
+    io::print_decimal(STDOUT, c.rows);
+    io::write_all(STDOUT, b" compared, ");
+    io::print_decimal(STDOUT, c.differ);
+    io::write_all(STDOUT, b" differ\n");
 }
 
 fn print_counts(counts: [Count; 64]) {
@@ -72,8 +72,8 @@ fn read_row(text: &mut [u8; 74]) -> bool {
 }
 
 fn print_first(text: &[u8; 74]) {
-    io::write_all(STDOUT_FILENO, b"differs first: ");
-    io::write_all(STDOUT_FILENO, text);
+    io::write_all(STDOUT, b"differs first: ");
+    io::write_all(STDOUT, text);
 }
 
 // Whether the row is a comment.

@@ -50,8 +50,8 @@ fn record(r: Row) -> [u8; 64] {
 
 // The rows keep to records of at most 64 bytes.
 fn answered(r: Row, rate: usize, fade: usize) -> EventAnswer
-    requires fact_1 { rate ≤ 96000 }
-    requires fact_2 { fade ≤ 4800 }
+    requires fast { rate ≤ 96000 }
+    requires fade_bound { fade ≤ 4800 }
 {
     let bytes = record(r);
     let length = (r.result / 65536) as usize;

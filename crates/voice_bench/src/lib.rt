@@ -44,10 +44,10 @@ pub extern "C" fn voice_render(
     recording: usize,
     output: usize,
 ) -> usize
-    requires room { Room output n out.old }
-    requires room_2 { Room recording rn rec.now }
-    requires k_bound { j + k ≤ n }
-    requires k_bound_2 { p + k < 2 ^ 62 }
+    requires output_room { Room output n out.old }
+    requires recording_room { Room recording rn rec.now }
+    requires within_output { j + k ≤ n }
+    requires position_bound { p + k < 2 ^ 62 }
     ensures value { result ≡ (frames rec.now rn fade.now n (sides_of recording output) j k (lent (voice_of kind i p) out.old)).voice.position }
     ensures out_after { out.new ≡ (frames rec.now rn fade.now n (sides_of recording output) j k (lent (voice_of kind i p) out.old)).out }
 {
@@ -74,11 +74,11 @@ pub extern "C" fn voices_render(
     recording: usize,
     output: usize,
 )
-    requires room { Room output n out.old }
-    requires room_2 { Room recording rn rec.now }
-    requires k_bound { j + k ≤ n }
-    requires k_bound_2 { p + k < 2 ^ 62 }
-    requires k_bound_3 { q + k < 2 ^ 62 }
+    requires output_room { Room output n out.old }
+    requires recording_room { Room recording rn rec.now }
+    requires within_output { j + k ≤ n }
+    requires position_bound { p + k < 2 ^ 62 }
+    requires second_bound { q + k < 2 ^ 62 }
     ensures { out.new ≡ (mix rec.now rn fade.now n (sides_of recording output) j k (voice_of 3 i p ∷ voice_of 1 f q ∷ []) out.old).out }
 {
     let a = voice_of(3, i, p);

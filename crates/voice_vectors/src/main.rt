@@ -4,7 +4,7 @@
 mod piece;
 mod row;
 
-use libc::STDOUT_FILENO;
+const STDOUT: i32 = 1;
 use row::Row;
 use sampler_voice::Voice;
 
@@ -70,18 +70,18 @@ fn is_comment(text: &[u8; 78]) -> bool {
 
 fn print_if(first: bool, text: &[u8; 78]) {
     if first {
-        io::write_all(STDOUT_FILENO, b"differs first: ");
-        io::write_all(STDOUT_FILENO, text);
+        io::write_all(STDOUT, b"differs first: ");
+        io::write_all(STDOUT, text);
     }
 }
 
 fn print_run(run: Run) {
-    io::print_decimal(STDOUT_FILENO, run.pieces);
-    io::write_all(STDOUT_FILENO, b" pieces compared in ");
-    io::print_decimal(STDOUT_FILENO, run.rows);
-    io::write_all(STDOUT_FILENO, b" rows, ");
-    io::print_decimal(STDOUT_FILENO, run.differ);
-    io::write_all(STDOUT_FILENO, b" differ\n");
+    io::print_decimal(STDOUT, run.pieces);
+    io::write_all(STDOUT, b" pieces compared in ");
+    io::print_decimal(STDOUT, run.rows);
+    io::write_all(STDOUT, b" rows, ");
+    io::print_decimal(STDOUT, run.differ);
+    io::write_all(STDOUT, b" differ\n");
 }
 
 fn main() {

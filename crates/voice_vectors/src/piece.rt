@@ -120,8 +120,8 @@ pub fn asked_by(r: Row) -> Asked {
 
 // Two channels, or else one.
 fn two_or_one(told: usize) -> usize
-    ensures result_nonzero { 0 < result }
-    ensures upper_bound { result ≤ 2 }
+    ensures low { 0 < result }
+    ensures high { result ≤ 2 }
 {
     if told == 2 { 2 } else { 1 }
 }

@@ -64,8 +64,8 @@ pub fn double_bits(x: f64) -> u64
 
 // A lower-case hex digit's number. Any other byte counts as 0.
 fn digit(byte: u8) -> u64
-    ensures fact_1 { result ≡ digit_of byte }
-    ensures fact_2 { result < 16 }
+    ensures value { result ≡ digit_of byte }
+    ensures bound { result < 16 }
 {
     let x = byte as u64;
     if x < 48 {
@@ -131,8 +131,8 @@ fn wide(byte: u8) -> u64
 // The number of n bytes from `at` on, the lowest first. Past the end there is none.
 pub fn number(bytes: &[u8], at: usize, n: usize) -> u64
     requires { n ≤ 8 }
-    ensures fact_1 { result ≡ little (take n (drop at bytes.now)) }
-    ensures fact_2 { result < 256 ^ n }
+    ensures value { result ≡ little (take n (drop at bytes.now)) }
+    ensures bound { result < 256 ^ n }
 {
     let mut number: u64 = 0;
     let mut i = room(bytes.len(), at, n);
