@@ -1,6 +1,8 @@
 // event_processor.rs: the queue of pending events, sixteen places and a count, by value. The Rust's
 // channel is a call for each event, and its sequence number the place of submission: an event goes in
 // after those of its time, so nothing is sorted. Every public function is total.
+#![tactic(auto)]
+
 ghost use Rattle.std.specs.Prelude.{◌≡◌, [], ◌∷◌, ◌++◌, ◌+◌, ◌≤◌, ◌<◌, take, drop};
 ghost use Rattle.sampler_event.specs.Events.{blank_event};
 ghost use Rattle.event_processor.specs.Queue.{insert, first_before, pending, empty_queue, entered, received, is_due, taken_before};

@@ -1,6 +1,8 @@
 // The fade table of 48,000 played through the leg's own calls: a start inside the recording fades in, a second one
 // across the first, and a stop out. Each event comes at frame 105 of a block of 4,096 frames. Of each block: its number
 // and its pieces, the bits before, in and after the fade, and a sum of all bits.
+#![tactic(auto)]
+
 const STDOUT: i32 = 1;
 use sampler_processor::{Leg, LegAnswer};
 use timestamp::Timestamp;

@@ -1,5 +1,7 @@
 // Document 01's "Frames to check" through the leg's own calls: renders m10 and m11 in buffers of its
 // own and prints the bits of m10's five samples, then of m11's frames 150 to 153.
+#![tactic(auto)]
+
 const STDOUT: i32 = 1;
 use sampler_processor::{Leg, LegAnswer};
 use timestamp::Timestamp;

@@ -1,20 +1,20 @@
 -- Laws of binary64 that the proofs here share: a value that fits is determined by its size and sign, rounding a value that fits changes nothing,
 -- and a division by 2 ^ 32 of a rounded whole number is the fraction rounded once. Assumes nothing.
 use mathlib.Core.Path.{◌≡◌, refl, sym, ap, ◌∙◌, subst}
-use mathlib.Core.Bool.{Bool, true, false, cond, ◌&&◌}
-use Prim.Native.Nat.{ℕ, zero, suc, ◌+◌, ◌-◌, ◌*◌, ◌/◌, ◌%◌, ◌^◌, ◌≤◌, ◌<◌, compare}
-use native.Mathlib.Nat.{le_trans, le_of_eq, lt_of_lt_of_le, lt_of_le_of_lt, lt_of_not-le, lt_irrefl, zero-lt-suc, mul-one, one-mul, zero-mul, mul_comm, mul_assoc, mul_left_comm, mul_right_comm, mul-le-mul_right, mul-lt-mul_of_pos_right, mul-pos, div-div-eq-div-mul, add_comm, lt_of_mul-lt-mul_right, div-one, mul-le-mul_left}
+use mathlib.Core.Bool.{Bool, false, cond, ◌&&◌}
+use Prim.Native.Nat.{ℕ, zero, suc, ◌+◌, ◌-◌, ◌*◌, ◌/◌, ◌%◌, ◌^◌, ◌≤◌, ◌<◌}
+use native.Mathlib.Nat.{le_trans, le_of_eq, lt_of_lt_of_le, lt_of_le_of_lt, lt_of_not-le, lt_irrefl, zero-lt-suc, mul-one, one-mul, zero-mul, mul_comm, mul_assoc, mul_left_comm, mul_right_comm, mul-le-mul_right, mul-lt-mul_of_pos_right, mul-pos, lt_of_mul-lt-mul_right, mul-le-mul_left}
 use native.Mathlib.Omega.{arith}
 use lib.IntN.{ℤ, pos, negsuc}
 use lib.Dec.{T, ltb, leb, eqb, ltb→lt, leb→le, eqb→eq, lit≤, lit<}
-use lib.Pow.{pow-add, pow_pos, pow_mono, pow-lt, shl_lt}
-use lib.Ieee.{Float, nan, inf, fin, Format, binary64, prec, emax, low, up, down, size, nearest, odd, units, round, div, mul, of_int, fits, hid, top, to_bits, of_bits}
-use lib.Ieee.Digits.{size-lt, size-le, back}
-use lib.Ieee.Fits.{round_is, round-fits, up_pos, down_pos, kept-lt, nearest-le, and_l, and_r, two, two-le_pos}
+use lib.Pow.{pow-add, pow_pos, pow-lt}
+use lib.Ieee.{Float, nan, inf, fin, Format, binary64, prec, emax, low, up, down, size, round, div, fits, hid, top, to_bits, of_bits}
+use lib.Ieee.Digits.{back}
+use lib.Ieee.Fits.{round-fits, down_pos, and_l, and_r}
 use lib.Ieee.Bits.{of_bits-to_bits}
-use lib.Ieee.Exact.{HasValue, round_exact, units_val}
+use lib.Ieee.Exact.{HasValue, round_exact}
 use lib.Ieee.Nearest.{closest, closest_same, div_same}
-use lib.Ieee.Order.{drop, kept}
+use lib.Ieee.Order.{drop}
 use lib.Ieee.Scale.{round_same, grid, overflow, grid_scale, normal_of_fraction}
 use Rattle.laws.proofs.Round.{no_overflow, round_value}
 use Rattle.laws.proofs.Operations.{div_at, like_plus}

@@ -1,8 +1,8 @@
 -- The operations on floats by the fractions that the operands equal, zero and both signs included: each is one `round` of the exact result.
 -- The idea: two fractions of one value round alike (`round_same`). Assumes nothing.
 use mathlib.Core.Path.{◌≡◌, refl, sym, ap, ap₂, ◌∙◌, subst}
-use Prim.Native.Nat.{ℕ, suc, ◌+◌, ◌-◌, ◌*◌, ◌/◌, ◌^◌, ◌≤◌, ◌<◌}
-use native.Mathlib.Nat.{lt_of_lt_of_le, lt_of_le_of_lt, lt_irrefl, lt_of_not-le, not-le_of_lt, mul_assoc, mul_comm, mul_right_comm, mul-mul-mul_comm, mul-le-mul_left, mul-pos, mul-sub}
+use Prim.Native.Nat.{ℕ, suc, ◌+◌, ◌-◌, ◌*◌, ◌^◌, ◌≤◌, ◌<◌}
+use native.Mathlib.Nat.{lt_of_lt_of_le, lt_of_le_of_lt, lt_irrefl, lt_of_not-le, not-le_of_lt, mul_assoc, mul_comm, mul-mul-mul_comm, mul-le-mul_left, mul-pos, mul-sub}
 use native.Mathlib.Omega.{arith}
 use mathlib.Core.Bool.{Bool, true, false, not, cond, true≢false}
 use lib.Dec.{T, ltb, eqb, eqb→eq, ltb→lt, nltb→le}
@@ -10,7 +10,6 @@ use lib.Pow.{pow-add, pow_pos, pow_mono, shl_lt}
 use lib.Ieee.{Float, nan, inf, fin, Format, prec, emax, low, up, down, unlike, round, add, sub, mul, div}
 use lib.Ieee.Fits.{up_pos, down_pos, reach}
 use lib.Ieee.Exact.{HasValue, round_exact}
-use lib.Ieee.Nearest.{closest, closest_same, div_same}
 use lib.Ieee.Order.{transfer}
 use lib.Ieee.Scale.{round_same}
 use lib.Ieee.Positive.{first_pos}

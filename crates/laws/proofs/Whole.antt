@@ -1,22 +1,21 @@
 -- A value above zero rounded to the nearest whole number, a tie to the even one, by one sum with 2 ^ 52.
 -- The idea: from 2 ^ 52 on the format has whole numbers only, so the sum's rounding is the one asked for. Assumes nothing.
 use mathlib.Core.Path.{◌≡◌, refl, sym, ap, ◌∙◌, subst}
-use mathlib.Core.Bool.{Bool, true, false, cond, not, ◌&&◌, true≢false}
-use mathlib.Core.Logic.{◌⊎◌, inl, inr}
-use Prim.Native.Nat.{ℕ, zero, suc, ◌+◌, ◌-◌, ◌*◌, ◌/◌, ◌%◌, ◌^◌, ◌≤◌, ◌<◌, compare, min, Ordering}
-use native.Mathlib.Nat.{le_trans, le_of_eq, le_of_lt, lt_of_lt_of_le, lt_of_le_of_lt, lt_of_not-le, not-le_of_lt, lt_irrefl, zero-lt-suc, mul-one, one-mul, zero-mul, mul_comm, mul_assoc, mul_left_comm, mul_right_comm, mul-le-mul_right, mul-le-mul_left, mul-lt-mul_of_pos_right, mul-pos, add-mul, div-one, mod-one, le-div_iff_mul-le, div-lt_iff_lt-mul, eq_of_mul-eq-mul_right, lt_of_mul-lt-mul_right, le_of_mul-le-mul_right, mul-div_cancel, mul-mod_left, mod-lt, le-add_right, div-add-mod'}
+use mathlib.Core.Bool.{Bool, true, false, true≢false}
+use Prim.Native.Nat.{ℕ, suc, ◌+◌, ◌-◌, ◌*◌, ◌/◌, ◌%◌, ◌^◌, ◌≤◌, ◌<◌, compare, min, Ordering}
+use native.Mathlib.Nat.{le_trans, le_of_eq, le_of_lt, lt_of_lt_of_le, lt_of_le_of_lt, lt_of_not-le, not-le_of_lt, lt_irrefl, zero-lt-suc, mul-one, mul_assoc, mul_right_comm, mul-le-mul_right, mul-lt-mul_of_pos_right, mul-pos, add-mul, le-div_iff_mul-le, div-lt_iff_lt-mul, eq_of_mul-eq-mul_right, mul-div_cancel, mod-lt, le-add_right, div-add-mod'}
 use native.Mathlib.Omega.{arith}
 use lib.IntN.{ℤ, pos, negsuc}
-use lib.Dec.{T, ltb, leb, eqb, ltb→lt, lt→ltb, nltb→le, leb→le, eqb→eq, lit≤, lit<}
+use lib.Dec.{T, lt→ltb, lit≤, lit<}
 use lib.Arith.{digits_div, digits_mod}
-use lib.Pow.{pow-add, pow_pos, pow_mono, pow-lt, shl_lt}
-use lib.Ieee.{Float, nan, inf, fin, Format, binary64, prec, emax, low, up, down, size, nearest, round, add, sum, mul, lt, le, to_unsigned, fits}
-use lib.Ieee.Digits.{size-lt, size-le, back}
-use lib.Ieee.Fits.{up_pos, down_pos}
+use lib.Pow.{pow-add, pow_pos, pow_mono}
+use lib.Ieee.{Float, nan, inf, fin, binary64, up, down, size, nearest, round, add, sum, lt, to_unsigned, fits}
+use lib.Ieee.Digits.{size-lt, size-le}
+use lib.Ieee.Fits.{down_pos}
 use lib.Ieee.Exact.{HasValue}
-use lib.Ieee.Nearest.{closest, closest_same, closest_mono, div_same}
-use lib.Ieee.Scale.{round_same, grid, overflow}
-use lib.Ieee.Positive.{num, den, positive, den_pos, value→cross}
+use lib.Ieee.Nearest.{closest, closest_same, closest_mono}
+use lib.Ieee.Scale.{grid, overflow}
+use lib.Ieee.Positive.{num, den, positive}
 use Rattle.laws.proofs.Near.{closest_whole}
 use Rattle.laws.proofs.Round.{round_value}
 use Rattle.laws.proofs.Fit.{room_of}

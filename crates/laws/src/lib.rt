@@ -1,1 +1,2 @@
 // Facts on numbers and floats that the other crates cite: proofs/. There is no code here.
+#![tactic(auto)]

@@ -1,6 +1,8 @@
 // sample_location.rs: a place in an audio buffer, by channel and frame, and a rectangle of such places.
 // Every function is total: where the Rust's sum would overflow, the answer has document 01's number 15
 // and zeros.
+#![tactic(auto)]
+
 ghost use Rattle.std.specs.Prelude.{◌≡◌, ◌+◌};
 ghost use Rattle.sample_location.specs.Location.{fits, place, moved_frames, moved_channels, rectangle, range_from};
 

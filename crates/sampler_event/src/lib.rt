@@ -1,6 +1,8 @@
 // sampler_event.rs: what a sampler can be told (`Kind` is the Rust's `SampleEventType`, `Event` its
 // `SamplerEvent`), and document 01's command record, the 26 bytes that tell it. The Rust's sequence
 // number is gone: among equal times the queue keeps the place of submission.
+#![tactic(auto)]
+
 ghost use Rattle.std.specs.Prelude.{◌≡◌, false, ◌+◌, ◌^◌, ◌≤◌, ◌<◌, max, pos, length, take, drop};
 ghost use Rattle.laws.specs.Rules.{within};
 ghost use Rattle.sampler_event.specs.Events.{event_at, event_now, blank_event, timed, is_cancel_all};

@@ -1,5 +1,7 @@
 // sampler_fade.rs: the fade's length, its two tables as constants, and the entry at a position. The Rust's
 // `Fade` owns a vector; here a table is a slice that the caller lends, and its length is F.
+#![tactic(auto)]
+
 ghost use Rattle.std.specs.Prelude.{◌≡◌, true, false, cond, ℕ, ◌<◌, ◌≤◌, length, get_or};
 ghost use Rattle.timestamp.specs.Time.{fade_length};
 ghost use Rattle.sampler_fade.specs.Bits.{bits48000, bits8000};

@@ -1,5 +1,7 @@
 // What plays, of sampler_processor.rs: the voices, which of them is active, the loop points, and where
 // the leg stands.
+#![tactic(auto)]
+
 ghost use Rattle.std.specs.Prelude.{◌≡◌, false, [], ◌∷◌, ◌≤◌, ◌^◌, nat_abs, ◌+ℤ◌};
 ghost use Rattle.sampler_event.specs.Limits.{place_bad, positions_bad};
 ghost use Rattle.sampler_player.specs.Clock.{clock_at};

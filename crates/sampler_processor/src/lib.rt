@@ -1,4 +1,6 @@
 // sampler_processor.rs: the leg by value: made, told, rendered.
+#![tactic(auto)]
+
 ghost use Rattle.std.specs.Prelude.{◌≡◌, true, ◌<◌, ◌^◌, T, pos};
 ghost use Rattle.laws.specs.Rules.{within};
 ghost use Rattle.sampler_player.specs.Clock.{clock_at};

@@ -1,6 +1,8 @@
 // sampler_voice.rs: a voice of the sampler, and the two of a leg. A voice goes in by value and comes back.
 // Recording and output are planar, channel 0's frames and then channel 1's, and each has its own number of
 // channels. The output is n frames long; a piece of it is k frames from frame j on.
+#![tactic(auto)]
+
 ghost use Rattle.std.specs.Prelude.{◌≡◌, ◌+◌, ◌<◌, ◌≤◌, ◌^◌};
 ghost use Rattle.sampler_voice.specs.Sound.{both_mixed, scaled};
 ghost use Rattle.sampler_voice.specs.inner.Room.{Room};

@@ -1,6 +1,6 @@
 -- Numbers of frames cut and rounded, as the code does it: a cast, and the cast of twice the number halved upwards.
 -- The idea: below 2 ^ 64 the cast is the quotient, and below 2 ^ 52 twice a number is exact. Assumes nothing.
-use Rattle.std.proofs.Common.{◌≡◌, ℕ, zero, suc, ◌+◌, ◌-◌, ◌*◌, ◌/◌, ◌%◌, ◌^◌, ◌<◌, min, Bool, true, false, cond, not, T, ltb, ℤ, pos, sym, refl, ap, ◌∙◌, subst, lt_of_lt_of_le, le_of_lt, mul_comm, div-lt_iff_lt-mul, mul-lt-mul_of_pos_right, mul-one, arith, lit<, ltb→lt, lt→ltb, T_not}
+use Rattle.std.proofs.Common.{◌≡◌, ℕ, zero, suc, ◌+◌, ◌*◌, ◌/◌, ◌%◌, ◌^◌, ◌<◌, min, Bool, true, false, cond, not, T, ltb, ℤ, pos, sym, refl, ap, ◌∙◌, subst, lt_of_lt_of_le, le_of_lt, mul_comm, div-lt_iff_lt-mul, mul-lt-mul_of_pos_right, mul-one, arith, lit<, ltb→lt, lt→ltb, T_not}
 use native.Mathlib.Nat.{add-div_right, div-div-eq-div-mul}
 use lib.Ieee.{Float, nan, inf, fin, Format, binary64, prec, emax, low, up, down, odd, units, round, mul, lt, to_unsigned, fits}
 use lib.Ieee.Fits.{down_pos, round_is}

@@ -2,6 +2,8 @@
 // conversions. Every method is total: where document 01 refuses, the answer has its number and zeros.
 // The free functions at the end are T, S and S's two roundings, for the layers above: they ask for a
 // rate in range, and the layers call nothing else to go between times and frames.
+#![tactic(auto)]
+
 ghost use Rattle.std.specs.Prelude.{◌≡◌, ◌*◌, ◌^◌, ◌≤◌, false, T, pos, neg_ℤ, int_lt};
 ghost use Rattle.std.specs.Float.Ieee as Ieee;
 ghost use Rattle.std.specs.Float.{fin};

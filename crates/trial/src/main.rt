@@ -1,5 +1,7 @@
 // Drives a leg from a file (docs/TRIAL.md): reads trials from standard input until it ends, and writes what
 // the leg answered. A malformed one ends the program with a line on standard error.
+#![tactic(auto)]
+
 use buffered::input::Input;
 use buffered::{input, output};
 const STDERR: i32 = 2;

@@ -1,6 +1,8 @@
 // Replays the oracle's answers: each row of standard input (74 bytes; oracle/README.md has the
 // layout) is a call of the port, whose number and result must be the row's. Writes, for each op, how
 // many rows were compared and how many differ, and the first row that does.
+#![tactic(auto)]
+
 mod calls;
 mod queue;
 mod row;

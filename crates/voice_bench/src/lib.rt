@@ -1,4 +1,6 @@
 // The voices as C calls them, for bench/ alone: a voice is its phase's number, its fade position and its position.
+#![tactic(auto)]
+
 ghost use Rattle.std.specs.Prelude.{◌≡◌, [], ◌∷◌, ◌+◌, ◌<◌, ◌≤◌, ◌^◌};
 ghost use Rattle.sampler_voice.specs.inner.Room.{Room};
 ghost use Rattle.sampler_voice.specs.Voices.{lent, frames, mix};

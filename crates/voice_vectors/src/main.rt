@@ -1,6 +1,8 @@
 // Replays the Rust's voices: each row of standard input (78 bytes; oracle/README.md has the layout) sets entries of
 // the buffers, renders a piece, or holds what the Rust made of it, bit for bit. Writes how many pieces were
 // compared and how many differ, and the first row that does.
+#![tactic(auto)]
+
 mod piece;
 mod row;
 

@@ -1,5 +1,7 @@
 // Signed numbers and floats as the bits that a file has for them, and numbers as hex digits and bytes.
 // The bits as a signed number are `sampler_event::as_i64`.
+#![tactic(auto)]
+
 ghost use Rattle.std.specs.Prelude.{◌≡◌, ◌-◌, ◌%◌, ◌^◌, ◌≤◌, ◌<◌, min, take, drop};
 ghost use Rattle.std.specs.Float.{binary32, binary64};
 ghost use Rattle.std.specs.Float.Ieee.{of_bits, to_bits};
