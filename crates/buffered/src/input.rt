@@ -8,7 +8,7 @@ use timestamp::Timestamp;
 
 // Where reading stands: the next byte of the buffer, the end of what it holds, and the bytes of the file
 // that went before it.
-#[derive(Drop)]
+#[derive(Clone, Copy)]
 pub struct Input {
     pub at: usize,
     pub end: usize,
@@ -167,7 +167,7 @@ fn float(buffer: &[u8; 65536], at: usize) -> f32
 }
 
 // Whether all were there, and where reading stands.
-#[derive(Drop)]
+#[derive(Clone, Copy)]
 pub struct Floats {
     pub whole: bool,
     pub input: Input,

@@ -8,7 +8,7 @@ ghost use Rattle.buffered.specs.Output.{spot, Put, put_floats};
 const STDOUT: i32 = 1;
 
 // The bytes that the buffer holds, and whether every write so far was taken.
-#[derive(Drop)]
+#[derive(Clone, Copy)]
 pub struct Output {
     pub held: usize,
     pub taken: bool,

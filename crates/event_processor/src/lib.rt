@@ -11,27 +11,27 @@ use sampler_event::Event;
 use timestamp::Timestamp;
 
 // The first `count` places hold the events that wait, sorted by time, equal times by submission.
-#[derive(Drop)]
+#[derive(Clone, Copy)]
 pub struct Queue {
     pub events: [Event; 16],
     pub count: usize,
 }
 
 // A queue, and 0, or the number of a refusal and the queue as it was given.
-#[derive(Drop)]
+#[derive(Clone, Copy)]
 pub struct QueueAnswer {
     pub number: u8,
     pub queue: Queue,
 }
 
-#[derive(Drop)]
+#[derive(Clone, Copy)]
 pub enum First {
     Nothing,
     Due(Event),
 }
 
 // The first event where it is due, and the queue without it.
-#[derive(Drop)]
+#[derive(Clone, Copy)]
 pub struct Taken {
     pub first: First,
     pub queue: Queue,

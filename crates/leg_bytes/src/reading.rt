@@ -28,7 +28,7 @@ fn setup_at(bytes: &[u8]) -> Setup
 
 // ---- a voice
 
-#[derive(Drop)]
+#[derive(Clone, Copy)]
 pub struct VoiceRead {
     pub good: bool,
     pub voice: Voice,
@@ -82,7 +82,7 @@ fn active_of(number: u64) -> Active
     Active::Number((number - 1) as usize)
 }
 
-#[derive(Drop)]
+#[derive(Clone, Copy)]
 pub struct PointsRead {
     pub good: bool,
     pub points: Points,
@@ -106,7 +106,7 @@ fn points_at(bytes: &[u8]) -> PointsRead
     }
 }
 
-#[derive(Drop)]
+#[derive(Clone, Copy)]
 pub struct PlayerRead {
     pub good: bool,
     pub player: Player,
@@ -139,7 +139,7 @@ fn player_at(bytes: &[u8]) -> PlayerRead
 
 // ---- the queue
 
-#[derive(Drop)]
+#[derive(Clone, Copy)]
 pub struct EventRead {
     pub good: bool,
     pub event: Event,
@@ -207,7 +207,7 @@ fn place_at(bytes: &[u8], i: usize) -> EventRead
     blank_at(bytes, 90 + 25 * i)
 }
 
-#[derive(Drop)]
+#[derive(Clone, Copy)]
 pub struct QueueRead {
     pub good: bool,
     pub queue: Queue,
@@ -237,7 +237,7 @@ fn queue_at(bytes: &[u8]) -> QueueRead
 // ---- the leg
 
 // Whether the bytes are well formed, and the leg that they are.
-#[derive(Drop)]
+#[derive(Clone, Copy)]
 pub struct LegRead {
     pub good: bool,
     pub leg: Leg,

@@ -9,7 +9,7 @@ ghost use Rattle.sample_location.specs.Location.{fits, place, moved_frames, move
 // ---- what the Rust has from its library
 
 // `std::ops::Range<usize>`: start is in it, end is not.
-#[derive(Drop)]
+#[derive(Clone, Copy)]
 pub struct Range {
     pub start: usize,
     pub end: usize,
@@ -18,14 +18,14 @@ pub struct Range {
 // ---- answers
 
 // A place, and 0, or the number of a refusal and the origin.
-#[derive(Drop)]
+#[derive(Clone, Copy)]
 pub struct LocationAnswer {
     pub number: u8,
     pub location: SampleLocation,
 }
 
 // A range, and 0, or the number of a refusal and 0 to 0.
-#[derive(Drop)]
+#[derive(Clone, Copy)]
 pub struct RangeAnswer {
     pub number: u8,
     pub range: Range,
@@ -62,7 +62,7 @@ fn range_from(start: usize, count: usize) -> RangeAnswer
 
 // ---- sample_location.rs
 
-#[derive(Drop)]
+#[derive(Clone, Copy)]
 pub struct SampleLocation {
     pub channel: usize,
     pub frame: usize,
@@ -149,7 +149,7 @@ impl SampleLocation {
     }
 }
 
-#[derive(Drop)]
+#[derive(Clone, Copy)]
 pub struct SampleRange {
     pub channel: usize,
     pub frame: usize,

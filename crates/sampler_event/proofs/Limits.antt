@@ -2,7 +2,7 @@
 -- The idea: the difference of the two points is `Minus` (laws), so an end before its start is below every bound, and otherwise all is in ℕ. Assumes nothing.
 use Prim.Native.Nat.{ℕ, suc, ◌+◌, ◌*◌, ◌-◌, ◌^◌, ◌≤◌, ◌<◌, max}
 use mathlib.Core.Path.{◌≡◌, refl}
-use mathlib.Core.Bool.{Bool, true, false, ◌||◌, not, false≢true}
+use mathlib.Core.Bool.{Bool, true, false, not, false≢true}
 use native.Mathlib.Nat.{add-zero, mul-le-mul, le-max_right}
 use native.Mathlib.Omega.{arith}
 use borrow.Author.Tests.{not-false}

@@ -14,7 +14,7 @@ use timestamp::Timestamp;
 
 // ---- sampler_event.rs
 
-#[derive(Drop)]
+#[derive(Clone, Copy)]
 pub enum Kind {
     Start(Timestamp),
     StartImmediate,
@@ -24,7 +24,7 @@ pub enum Kind {
     CancelAll,
 }
 
-#[derive(Drop)]
+#[derive(Clone, Copy)]
 pub struct Event {
     pub time: Timestamp,
     pub kind: Kind,
@@ -291,7 +291,7 @@ impl Event {
 // ---- the record
 
 // A record as a value, its fields in its order. What is a time or not used is a `Timestamp`.
-#[derive(Drop)]
+#[derive(Clone, Copy)]
 pub struct Record {
     pub kind: u16,
     pub time: Timestamp,
@@ -300,7 +300,7 @@ pub struct Record {
 }
 
 // An event, and 0, or the number of a refusal and the blank event.
-#[derive(Drop)]
+#[derive(Clone, Copy)]
 pub struct EventAnswer {
     pub number: u8,
     pub event: Event,

@@ -16,20 +16,20 @@ use timestamp::{Timestamp, frame_near};
 mod pieces;
 mod times;
 
-#[derive(Drop)]
+#[derive(Clone, Copy)]
 pub enum Active {
     Neither,
     Number(usize),
 }
 
-#[derive(Drop)]
+#[derive(Clone, Copy)]
 pub enum Points {
     Absent,
     Between(Timestamp, Timestamp),
 }
 
 // The four numbers that a leg is made from.
-#[derive(Drop)]
+#[derive(Clone, Copy)]
 pub struct Setup {
     pub rate: usize,
     pub channels: usize,
@@ -37,7 +37,7 @@ pub struct Setup {
     pub fade: usize,
 }
 
-#[derive(Drop)]
+#[derive(Clone, Copy)]
 pub struct Player {
     pub voices: [Voice; 2],
     pub active: Active,
@@ -48,7 +48,7 @@ pub struct Player {
 }
 
 // What a segment leaves, and how many pieces it rendered.
-#[derive(Drop)]
+#[derive(Clone, Copy)]
 pub struct Played {
     pub player: Player,
     pub pieces: usize,

@@ -21,7 +21,7 @@ use sampler_player::{Player, Setup};
 use timestamp::Timestamp;
 
 // Where a block stands: what plays, the frames rendered, the current time, the pieces so far.
-#[derive(Drop)]
+#[derive(Clone, Copy)]
 pub struct Stand {
     pub player: Player,
     pub done: usize,
@@ -30,7 +30,7 @@ pub struct Stand {
 }
 
 // What a block leaves.
-#[derive(Drop)]
+#[derive(Clone, Copy)]
 pub struct BlockEnd {
     pub player: Player,
     pub queue: Queue,

@@ -20,7 +20,7 @@ mod block;
 mod numbers;
 mod sound;
 
-#[derive(Drop)]
+#[derive(Clone, Copy)]
 pub struct Leg {
     pub setup: Setup,
     pub player: Player,
@@ -28,14 +28,14 @@ pub struct Leg {
 }
 
 // A leg, and 0, or the number of a refusal and the leg that it leaves.
-#[derive(Drop)]
+#[derive(Clone, Copy)]
 pub struct LegAnswer {
     pub number: u8,
     pub leg: Leg,
 }
 
 // The same for a block, with how many pieces it was rendered in.
-#[derive(Drop)]
+#[derive(Clone, Copy)]
 pub struct RenderAnswer {
     pub number: u8,
     pub leg: Leg,

@@ -12,7 +12,7 @@ ghost use Rattle.sampler_voice.specs.inner.Room.{Ahead};
 mod piece;
 mod sound;
 
-#[derive(Drop)]
+#[derive(Clone, Copy)]
 pub enum Phase {
     Stopped,
     FadingIn(usize),
@@ -20,14 +20,14 @@ pub enum Phase {
     FadingOut(usize),
 }
 
-#[derive(Drop)]
+#[derive(Clone, Copy)]
 pub struct Voice {
     pub position: usize,
     pub phase: Phase,
 }
 
 // How many channels each side has.
-#[derive(Drop)]
+#[derive(Clone, Copy)]
 pub struct Channels {
     pub recording: usize,
     pub output: usize,
@@ -49,7 +49,7 @@ impl Channels {
 }
 
 // The two channel values of a frame.
-#[derive(Drop)]
+#[derive(Clone, Copy)]
 pub struct Pair {
     pub left: f32,
     pub right: f32,
@@ -168,7 +168,7 @@ impl Voice {
 }
 
 // The voices of a leg.
-#[derive(Drop)]
+#[derive(Clone, Copy)]
 pub struct Voices {
     pub voices: [Voice; 2],
 }

@@ -14,26 +14,26 @@ ghost use Rattle.timestamp.specs.declared.Timestamp.{Timestamp};
 ghost use Rattle.timestamp.specs.Time.{seconds, frames_of, floor_of, round_of, frame_at, frame_near, time_of};
 ghost use Rattle.timestamp.specs.Answer.{in_rate, refused, order, minus, plus, from_seconds, from_samples, from_beats, as_samples, as_beats, moved_by, incremented_by_samples, incremented_by_seconds, incremented_by_beats};
 
-#[derive(Drop)]
+#[derive(Clone, Copy)]
 pub struct Timestamp {
     pub bits: i64,
 }
 
 // A time, and 0, or the number of a refusal and the time 0.
-#[derive(Drop)]
+#[derive(Clone, Copy)]
 pub struct TimeAnswer {
     pub number: u8,
     pub time: Timestamp,
 }
 
 // A number of samples or beats, and 0, or the number of a refusal and 0.0.
-#[derive(Drop)]
+#[derive(Clone, Copy)]
 pub struct FloatAnswer {
     pub number: u8,
     pub value: f64,
 }
 
-#[derive(Drop)]
+#[derive(Clone, Copy)]
 pub enum Order {
     Less,
     Equal,

@@ -12,7 +12,7 @@ use trial_steps::{at, steps};
 // ---- a trial's head
 
 // What a trial's first 30 bytes say, but for the output's channels; and whether they are all there, with the mark.
-#[derive(Drop)]
+#[derive(Clone, Copy)]
 struct Head {
     known: bool,
     rate: usize,

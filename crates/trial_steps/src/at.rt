@@ -9,7 +9,7 @@ use sampler_processor::Leg;
 
 // Whether there may be more; what was malformed (0 nothing, 1 a trial, 2 a step) and where it begins in the file;
 // reading and writing; the output's channels and the leg of the trial.
-#[derive(Drop)]
+#[derive(Clone, Copy)]
 pub struct At {
     pub more: bool,
     pub fault: u8,

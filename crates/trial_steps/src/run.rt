@@ -10,7 +10,7 @@ use timestamp::Timestamp;
 
 // What a step asks of blocks: whether it is all there, and what follows it; the first one's start, the frames of
 // each, and how many there are or, of one, how many entries.
-#[derive(Drop)]
+#[derive(Clone, Copy)]
 pub struct Asked {
     pub good: bool,
     pub input: Input,
@@ -20,7 +20,7 @@ pub struct Asked {
 }
 
 // The number of the last block; the blocks rendered, their pieces, and the sum of their entries' bits.
-#[derive(Drop)]
+#[derive(Clone, Copy)]
 pub struct Blocks {
     pub number: u8,
     pub blocks: u64,

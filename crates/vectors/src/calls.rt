@@ -3,7 +3,7 @@ use crate::row::Row;
 use sample_location::{LocationAnswer, RangeAnswer, SampleLocation, SampleRange};
 use timestamp::{FloatAnswer, Order, TimeAnswer, Timestamp};
 
-#[derive(Drop)]
+#[derive(Clone, Copy)]
 pub struct Reply {
     pub number: u64,
     pub result: u64,

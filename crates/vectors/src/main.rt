@@ -12,7 +12,7 @@ use queue::{Judged, State};
 use row::Row;
 
 // The rows of one op: how many, and how many of them differ.
-#[derive(Drop)]
+#[derive(Clone, Copy)]
 struct Count {
     rows: u64,
     differ: u64,

@@ -7,7 +7,7 @@ use event_processor::{First, Queue};
 use sampler_event::{Event, EventAnswer, Kind};
 use timestamp::Timestamp;
 
-#[derive(Drop)]
+#[derive(Clone, Copy)]
 pub struct State {
     pub rate: u64,
     pub fade: u64,
@@ -15,7 +15,7 @@ pub struct State {
 }
 
 // Whether the port's answer is the row's, and the state for the next row.
-#[derive(Drop)]
+#[derive(Clone, Copy)]
 pub struct Judged {
     pub same: bool,
     pub state: State,

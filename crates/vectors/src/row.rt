@@ -1,6 +1,6 @@
 // A row of the list: an op, three arguments, the answer's number and its result, in lower-case hex.
 
-#[derive(Drop)]
+#[derive(Clone, Copy)]
 pub struct Row {
     pub op: u64,
     pub a: u64,

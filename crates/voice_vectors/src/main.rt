@@ -11,7 +11,7 @@ use row::Row;
 use sampler_voice::Voice;
 
 // The piece at hand and the count of those before it.
-#[derive(Drop)]
+#[derive(Clone, Copy)]
 struct Run {
     voice: Voice,
     good: bool,

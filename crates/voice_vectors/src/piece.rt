@@ -75,7 +75,7 @@ pub fn is_voice(v: Voice, r: Row) -> bool {
     same & (v.position == position)
 }
 
-#[derive(Drop)]
+#[derive(Clone, Copy)]
 pub struct Rendered {
     pub taken: bool,
     pub voice: Voice,
@@ -89,7 +89,7 @@ fn refused() -> Rendered {
 }
 
 // What a row asks for.
-#[derive(Drop)]
+#[derive(Clone, Copy)]
 pub struct Asked {
     pub voice: Voice,
     pub rn: usize,

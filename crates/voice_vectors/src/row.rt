@@ -1,6 +1,6 @@
 // A row of the list: an op, a place and eight words, in lower-case hex.
 
-#[derive(Drop)]
+#[derive(Clone, Copy)]
 pub struct Row {
     pub op: u64,
     pub at: usize,

@@ -2,12 +2,8 @@
 -- The idea: antt compares the two lists. Assumes nothing.
 use mathlib.Core.Path.{refl}
 use Rattle.sampler_fade.specs.Bits.{bits8000}
-use Rattle.sampler_fade.proofs.bits_8000.Statement.{statement}
-use Rattle.sampler_fade.proofs.bits_8000.Tie as tie
+use Rattle.sampler_fade.proofs.bits_8000.Goals as goal
 
-returns : tie.Need-returns
+pub returns : goal.returns
 unfolding bits8000
 returns c = refl
-
-pub bits-8000-spec : {M : Type 1} → statement M
-bits-8000-spec = tie.close (tie.spec returns)
