@@ -2,7 +2,7 @@
 -- The idea: cut the piece where a fade ends; each part stays in one phase. Assumes nothing.
 use Prim.Native.Nat.{ℕ, zero, suc, ◌+◌, ◌-◌, ◌<◌, ◌≤◌}
 use mathlib.Core.Path.{◌≡◌, refl, sym, ◌∙◌, ap}
-use mathlib.Core.Bool.{Bool, true, false≢true}
+use mathlib.Core.Bool.{true, false≢true}
 use mathlib.Core.List.{List, [], ◌∷◌}
 use native.Mathlib.Omega.{arith}
 use native.Mathlib.Nat.{add-sub_of_le}
@@ -45,6 +45,7 @@ module _ (rec : List Float) (rn : ℕ) (fade : List Float) (n : ℕ) (ch : Chann
   pub in_over : (i p j k : ℕ) (out : List Float) → length fade ≤ i → 0 < k
       → frames rec rn fade n ch j k (heard p (FadingIn i) out) ≡ heard (p + k) Playing (run rec rn fade n ch Playing p j k out)
   unfolding settled
+  in_over i p j zero out l z = elim z [ ]
   in_over i p j (suc k) out l z = settle_first (FadingIn i) Playing p j k out (simp (le-ltb i (length fade) l)) refl ∙ playing p j (suc k) out
 
   pub in_short : (i p j k : ℕ) (out : List Float) → i + k < length fade
@@ -70,6 +71,7 @@ module _ (rec : List Float) (rn : ℕ) (fade : List Float) (n : ℕ) (ch : Chann
   pub out_over : (i p j k : ℕ) (out : List Float) → length fade ≤ i → 0 < k
       → frames rec rn fade n ch j k (heard p (FadingOut i) out) ≡ heard p Stopped out
   unfolding settled
+  out_over i p j zero out l z = elim z [ ]
   out_over i p j (suc k) out l z = settle_first (FadingOut i) Stopped p j k out (simp (le-ltb i (length fade) l)) refl ∙ stopped p j (suc k) out
 
   pub out_short : (i p j k : ℕ) (out : List Float) → i + k < length fade

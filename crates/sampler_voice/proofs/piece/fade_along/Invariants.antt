@@ -1,0 +1,14 @@
+-- `sampler_voice::piece::fade_along` meets its contract.
+-- The idea: the invariant is the output after i frames of one run; a turn is one more (`step`), scaled by the entry looked up. Assumes nothing.
+use Prim.Native.Nat.{◌-◌, ◌≤◌}
+use mathlib.Core.Path.{◌≡◌}
+use lib.ListN.{length}
+use Rattle.sampler_voice.specs.inner.Run.{fading, run}
+use Rattle.sampler_voice.proofs.piece.fade_along.Given as goal
+
+abbrev pub invariant-loop-i : goal.invariant-loop-i
+invariant-loop-i l =
+    (l.i ≤ l.k) × (length l.out ≡ length l.initial.out) × (l.out ≡ run l.rec l.rn l.fade l.n l.channels (fading l.rising l.f) l.p l.j l.i l.initial.out)
+
+abbrev pub decreases-loop-i : goal.decreases-loop-i
+decreases-loop-i l = l.k - l.i
