@@ -1,11 +1,8 @@
 -- `event_processor::lowered` meets its contract: the first n places have moved.
 -- The idea: `down` is the array at each turn. Assumes nothing.
 use Prim.Native.Nat.{◌-◌, ◌≤◌}
-use mathlib.Core.Path.{◌≡◌, refl}
-use native.Mathlib.Omega.{arith}
-use borrow.Author.Rules.{rules}
-use lib.ListN.{length}
-use Rattle.event_processor.proofs.Moves.{down, down_step}
+use mathlib.Core.Path.{◌≡◌}
+use Rattle.event_processor.proofs.Moves.{down}
 use Rattle.event_processor.proofs.lowered.Given as goal
 
 abbrev pub invariant-loop-i : goal.invariant-loop-i

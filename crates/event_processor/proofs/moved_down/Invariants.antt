@@ -2,11 +2,7 @@
 -- The idea: `down` is the array at each turn, and the last store puts the blank where the turns end. Assumes nothing.
 use Prim.Native.Nat.{◌-◌, ◌≤◌}
 use mathlib.Core.Path.{◌≡◌}
-use native.Mathlib.Omega.{arith}
-use borrow.Author.Rules.{rules}
-use lib.ListN.{length}
-use Rattle.sampler_event.specs.Events.{blank_event}
-use Rattle.event_processor.proofs.Moves.{down, down_step, down_end}
+use Rattle.event_processor.proofs.Moves.{down}
 use Rattle.event_processor.proofs.moved_down.Given as goal
 
 abbrev pub invariant-loop-i : goal.invariant-loop-i

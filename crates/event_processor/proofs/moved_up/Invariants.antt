@@ -2,10 +2,7 @@
 -- The idea: `up` is the array at each turn, and the last store puts the event where the turns end. Assumes nothing.
 use Prim.Native.Nat.{◌≤◌}
 use mathlib.Core.Path.{◌≡◌}
-use native.Mathlib.Omega.{arith}
-use borrow.Author.Rules.{rules}
-use lib.ListN.{length}
-use Rattle.event_processor.proofs.Moves.{up, up_start, up_set, up_step}
+use Rattle.event_processor.proofs.Moves.{up}
 use Rattle.event_processor.proofs.moved_up.Given as goal
 
 abbrev pub invariant-loop-i : goal.invariant-loop-i

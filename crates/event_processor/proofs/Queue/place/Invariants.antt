@@ -1,18 +1,12 @@
 -- `event_processor::Queue::place` meets its contract: where `insert` puts the event.
 -- The idea: `insert` has passed the first i events and goes on with the rest, until one is later or none is left. Assumes nothing.
 use Prim.Native.Nat.{ℕ, ◌-◌, ◌≤◌}
-use mathlib.Core.Path.{◌≡◌, refl, ap, sym, ◌∙◌}
-use mathlib.Core.Bool.{true, false}
+use mathlib.Core.Path.{◌≡◌}
 use mathlib.Core.List.{List, ◌++◌}
-use native.Mathlib.Omega.{arith}
-use borrow.Author.Rules.{rules}
-use lib.ListN.{length, length-map, take, drop, get_or}
-use lib.Signed.{lt_z}
-use Rattle.sampler_event.specs.Events.{blank_event}
+use lib.ListN.{take, drop}
 use Rattle.sampler_event.specs.declared.Event.{Event}
 use Rattle.event_processor.specs.declared.Queue.{Queue}
 use Rattle.event_processor.specs.Queue.{insert, pending}
-use Rattle.event_processor.proofs.Insert.{insert_past, insert_found, insert_last}
 use Rattle.event_processor.proofs.Queue.place.Given as goal
 
 -- `insert` among those from i on, after those before i
