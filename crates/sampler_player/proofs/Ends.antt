@@ -1,6 +1,6 @@
 -- E up to the last stop: in whole numbers it is first + length * completed, and a stop of a block sees no more of it.
 -- The idea: E is exact up to 2 ^ 49 units, and beyond both are later than the last stop (E-exact, E-late); a block's stops come before that. Assumes nothing.
-use Prim.Native.Nat.{ℕ, ◌+◌, ◌-◌, ◌*◌, ◌^◌, ◌≤◌, ◌<◌}
+use Prim.Native.Nat.{ℕ, ◌+◌, ◌*◌, ◌^◌, ◌≤◌, ◌<◌}
 use native.Mathlib.Nat.{le_trans, add-zero}
 use native.Mathlib.Omega.{arith}
 use mathlib.Core.Path.{◌≡◌, refl, sym, ap, ◌∙◌}
@@ -14,7 +14,6 @@ use Rattle.laws.proofs.Tests.{yes}
 use Rattle.laws.proofs.Minus.{Minus, above, below, parts, plus_minus, lt_z_minus, nlt_z_minus}
 use Rattle.timestamp.specs.Time.{earlier, loop_end}
 use Rattle.timestamp.specs.Answer.{fitting}
-use Rattle.timestamp.proofs.Frames.{short}
 use Rattle.timestamp.proofs.Loop.{E-exact, E-late}
 use Rattle.sampler_player.specs.declared.Setup.{Setup}
 use Rattle.sampler_player.specs.Clock.{clock_at}

@@ -1,7 +1,6 @@
 -- No entry of the output becomes a NaN in a segment.
 -- The idea: only a piece writes, and a mix keeps numbers numbers. Assumes nothing.
 use Prim.Native.Nat.{ℕ, zero, suc, ◌+◌, ◌^◌}
-use mathlib.Core.Path.{◌≡◌}
 use mathlib.Core.Option.{Option, none, some}
 use Rattle.sampler_voice.proofs.NoNan.{Numbers, mix_numbers}
 use Rattle.sampler_player.specs.declared.Setup.{Setup}

@@ -1,6 +1,6 @@
 -- A loop in numbers, for the code: the sizes of its points, of its length and of the first end, from `kept`; and T of a recording.
 -- The idea: `Looping` (proofs/Due) has the points as natural numbers of at most 2 ^ 42. Assumes nothing.
-use Prim.Native.Nat.{ℕ, ◌+◌, ◌-◌, ◌*◌, ◌^◌, ◌≤◌, ◌<◌}
+use Prim.Native.Nat.{ℕ, ◌+◌, ◌*◌, ◌^◌, ◌≤◌, ◌<◌}
 use native.Mathlib.Nat.{mul-le-mul_left}
 use native.Mathlib.Omega.{arith}
 use mathlib.Core.Path.{◌≡◌, sym, ap, ◌∙◌, subst, subst₂}

@@ -1,5 +1,5 @@
 -- "Stop" and "Assign", over any number of voices. Definitions only.
-use Rattle.std.specs.Prelude.{ℕ, suc, Bool, true, false, cond, List, [], ◌∷◌, map, eqb, ℤ, pos, get_or, set}
+use Rattle.std.specs.Prelude.{ℕ, suc, Bool, false, cond, List, [], ◌∷◌, map, eqb, ℤ, pos, get_or, set}
 use Rattle.sampler_voice.specs.declared.Voice.{Voice}
 use Rattle.sampler_voice.specs.Voices.{silent, is_stopped, started_at, ended_voice}
 use Rattle.sampler_player.specs.declared.Active.{Active}

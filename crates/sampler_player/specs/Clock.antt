@@ -1,6 +1,6 @@
 -- What Assign, pieces and voices ask of a time: a rate's answers are T, round S and E, and "Whole-frame arithmetic" has its own. Definitions only.
 use Rattle.std.specs.Prelude.{ℕ, ℤ, pos, negsuc, ◌+ℤ◌, ◌-ℤ◌, ◌*ℤ◌}
-use Rattle.std.proofs.Math.Option.{Option, none, some}
+use Rattle.std.proofs.Math.Option.{Option, some}
 use Rattle.timestamp.specs.Time.{time_of, frame_near, loop_end}
 use Rattle.timestamp.specs.Answer.{fitting}
 

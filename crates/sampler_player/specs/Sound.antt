@@ -1,5 +1,5 @@
 -- What number 8 and "A leg is damaged unless" (14) ask of what plays. Definitions only.
-use Rattle.std.specs.Prelude.{ℕ, zero, suc, ◌^◌, Bool, true, false, ◌&&◌, ◌||◌, not, List, [], ◌∷◌, leb, ltb, ℤ, pos, neg_ℤ}
+use Rattle.std.specs.Prelude.{ℕ, zero, suc, ◌^◌, Bool, true, false, ◌&&◌, ◌||◌, not, List, [], ◌∷◌, leb, ltb, pos, neg_ℤ}
 use Rattle.std.specs.Int.Signed.{lt_z}
 use Rattle.sampler_voice.specs.declared.Voice.{Voice}
 use Rattle.sampler_voice.specs.Voices.{is_stopped, is_held, fade_good}

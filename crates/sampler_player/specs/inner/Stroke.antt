@@ -1,5 +1,5 @@
 -- "Passes that only catch up .. doing them at one stroke is allowed if proved equal": what they come to (proofs/Stroke says so), and E as the code has it. Definitions only.
-use Rattle.std.specs.Prelude.{ℕ, ◌+◌, ◌*◌, ◌-◌, ◌/◌, ◌^◌, Bool, cond, ℤ, pos, nat_abs, ◌+ℤ◌, ◌-ℤ◌}
+use Rattle.std.specs.Prelude.{ℕ, ◌+◌, ◌*◌, ◌-◌, ◌/◌, ◌^◌, cond, ℤ, pos, nat_abs, ◌+ℤ◌, ◌-ℤ◌}
 use Rattle.std.specs.Int.Signed.{lt_z}
 use Rattle.timestamp.specs.declared.Timestamp.{Timestamp}
 use Rattle.sampler_player.specs.declared.Points.{Points}
