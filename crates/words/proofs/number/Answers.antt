@@ -1,19 +1,14 @@
 -- `words::number` meets its contract.
 -- The idea: `number` is that of the bytes from at + i on, which are i₀ - i, and below 256 ^ (i₀ - i). The measure is i. Assumes nothing.
 use Prim.Native.Nat.{◌+◌, ◌-◌, ◌^◌, ◌<◌}
-use mathlib.Core.Path.{◌≡◌, refl, ap, ◌∙◌}
+use mathlib.Core.Path.{◌≡◌, ap, ◌∙◌}
 use native.Mathlib.Omega.{arith}
 use native.Mathlib.Nat.{pow-le-pow_right, lt_of_lt_of_le}
 use lib.Dec.{lit<}
 use Rattle.sampler_event.specs.Record.{little}
 use Rattle.sampler_event.proofs.Bytes.{turn, grows, seven}
 use Rattle.words.proofs.Digits.{all_digits}
-use borrow.Author.Rules.{rules}
 use Rattle.words.proofs.number.Goals as goal
-
-pub loop-i-init : goal.loop-i-init
-loop-i-init c = let r : c.room-i.result - c.room-i.result ≡ 0 = omega arith in
-    (search rules, (rw r refl, rw r (lit< tt)))
 
 -- what was read before a turn is below 2 ^ 56
 pub overflow_mul-number : goal.overflow_mul-number
