@@ -14,53 +14,47 @@ use Rattle.sampler_player.specs.Pieces.{Lent, lending}
 use Rattle.sampler_processor.specs.declared.block.Stand.{Stand}
 use Rattle.sampler_processor.specs.Block.{Running, frame_of, up_to, applied}
 use Rattle.sampler_processor.specs.inner.Stands.{running, applied_to}
-use Rattle.sampler_processor.proofs.block.past_event.Statement.{statement}
+use Rattle.sampler_processor.proofs.block.past_event.Goals as goal
+use Rattle.sampler_processor.proofs.block.past_event.Lts as lts
+use Rattle.sampler_processor.proofs.block.past_event.Reads as reads
 use Rattle.sampler_processor.proofs.block.past_event.Tie as tie
 
-event-frame-requires : tie.Need-event-frame-requires
-event-frame-requires c κs = search rules
+abbrev After-up_to-reached : Type 0
+After-up_to-reached = lts.After-up_to tie.the-claims reads.Pre reads.Post tie.handed_clauses
 
-up-to-requires : tie.Need-up-to-requires
-up-to-requires c κs =
-    let s = c.before.before.before.before.before in
-    let p = s.requires.1 in
-    let e = sym c.before.event-frame.ensures in
-    (s.requires.0, (subst (λ (n : ℕ). s.args.at.done ≤ n) e p.ahead, (subst (λ (n : ℕ). n ≤ s.args.block) e p.inside, (p.limits, (p.now, p.pieces)))))
+pub up_to-reached-requires : goal.up_to-reached-requires
+up_to-reached-requires c =
+    let s = c in
+    let p = s.requires.reaches in
+    let e = sym c.event_frame-frame.ensures in record { ready = s.requires.ready; not_past = subst (λ (n : ℕ). s.args.at.done ≤ n) e p.ahead; within_block = subst (λ (n : ℕ). n ≤ s.args.block) e p.inside; player_kept = p.limits; now_within = p.now; pieces_bound = p.pieces }
 
 -- where the block stands at the event's frame
-stands : (c : tie.After-up-to)
-    → let s = c.before.before.before.before.before.before.args in
+stands : (c : After-up_to-reached)
+    → let s = c.args in
     let r = running s.at s.out.now in
-    running c.up-to.result c.up-to.new.1.1.1.1.1.1.1.0
+    running c.up_to-reached.result c.up_to-reached.new.out
     ≡ up_to s.setup (lending s.rec.now s.fade.now s.channels s.block) s.start.bits (frame_of s.setup.rate s.start.bits s.at.now.bits s.event.time.bits) r
 stands c =
-    let s = c.before.before.before.before.before.before.args in
+    let s = c.args in
     let b = lending s.rec.now s.fade.now s.channels s.block in
-    c.up-to.ensures ∙ ap (λ (f : ℕ). up_to s.setup b s.start.bits f (running s.at s.out.now)) c.before.before.event-frame.ensures
+    c.up_to-reached.ensures ∙ ap (λ (f : ℕ). up_to s.setup b s.start.bits f (running s.at s.out.now)) c.event_frame-frame.ensures
 
-applied-to-requires : tie.Need-applied-to-requires
-applied-to-requires c κs =
-    let s = c.before.before.before.before.before.before.before.before in
-    let e = s.args.event.time.bits in
-    (s.requires.0.fast, (s.requires.1.places, subst (λ (r : Running). T (within (neg_ℤ (pos (2 ^ 20))) (pos (2 ^ 49)) (r.now -ℤ e))) (sym (stands c.before.before)) s.requires.1.delay))
-
-same_length : tie.Need-same-length
-same_length c = search rules
+pub applied_to-requires : goal.applied_to-requires
+applied_to-requires c =
+    let s = c in
+    let e = s.args.event.time.bits in record { fast = s.requires.ready.fast; positions_good = s.requires.reaches.places; delay_within = subst (λ (r : Running). T (within (neg_ℤ (pos (2 ^ 20))) (pos (2 ^ 49)) (r.now -ℤ e))) (sym (stands c.before.before)) s.requires.reaches.delay }
 
 -- an event applied where the block stands is the definition's
 applied-is : (s : Setup) (b : Lent) (z : ℤ) (e : Event) (a : Stand) (out : List Float) → running (applied_to s.rate e a) out ≡ applied s b z e (running a out)
 unfolding applied
 applied-is s b z e a out = refl
 
-returns : tie.Need-returns
+pub returns : goal.returns
 returns c =
-    let s = c.before.before.before.before.before.before.before.before.before.args in
+    let s = c.args in
     let b = lending s.rec.now s.fade.now s.channels s.block in
     let u = c.before.before.before in
     let out = u.up_to_lem.new.1.1.1.1.1.1.1.0 in
-    ap (λ (a : Stand). running a out) c.applied-to.ensures
+    ap (λ (a : Stand). running a out) c.applied_to.ensures
     ∙ applied-is s.setup b s.start.bits s.event u.up_to_lem.result out
     ∙ ap (applied s.setup b s.start.bits s.event) (stands u)
-
-pub past-event-spec : {M : Type 1} → statement M
-past-event-spec = tie.close (tie.spec event-frame-requires up-to-requires applied-to-requires same_length returns)

@@ -13,65 +13,53 @@ use Rattle.sampler_player.specs.inner.Lending.{starting}
 use Rattle.sampler_player.specs.Pieces.{lending}
 use Rattle.sampler_player.proofs.Counting.{segment_from}
 use Rattle.sampler_processor.proofs.Segments.{segment_pieces}
-use Rattle.sampler_processor.proofs.block.up_to.Statement.{statement}
-use Rattle.sampler_processor.proofs.block.up_to.Tie as tie
+use Rattle.sampler_processor.proofs.block.up_to.Goals as goal
 
 -- the frames to go are a block's at most
 few : (f d n : ℕ) → f ≤ n → n ≤ 4096 → f - d ≤ 4096
 few f d n h k = omega arith
 
-sub-n : tie.Need-overflow-sub-n
-sub-n c = search rules
-
-play-segment-requires : tie.Need-play-segment-requires
-play-segment-requires c κs =
-    let s = c.before.before.before.before.before.before in
-    let a : s.args.at.done ≤ s.args.frame = s.requires.1.0 in
-    let b : s.args.frame ≤ s.args.block = s.requires.1.1.0 in
-    (s.requires.0, (reach s.args.at.done s.args.frame s.args.block a b, s.requires.1.1.1.0))
+pub play_segment-played-requires : goal.play_segment-played-requires
+play_segment-played-requires c =
+    let s = c in
+    let a : s.args.at.done ≤ s.args.frame = s.requires.not_past in
+    let b : s.args.frame ≤ s.args.block = s.requires.within_block in let whole = (s.requires.ready, (reach s.args.at.done s.args.frame s.args.block a b, s.requires.player_kept))
   where
     reach : (d f n : ℕ) → d ≤ f → f ≤ n → d + (f - d) ≤ n
-    reach d f n h k = omega arith
+    reach d f n h k = omega arith in record { ready = whole.0; within_block = whole.1.0; player_kept = whole.1.1; }
 
-frames-later-requires : tie.Need-frames-later-requires
-frames-later-requires c κs =
-    let s = c.before.before.before.before.before.before.before.before.before.before in
-    (s.requires.0.slow, (s.requires.0.fast, (few s.args.frame s.args.at.done s.args.block s.requires.1.1.0 s.requires.0.block, s.requires.1.1.1.1.0)))
+pub frames_later-requires : goal.frames_later-requires
+frames_later-requires c =
+    let s = c in record { slow = s.requires.ready.slow; fast = s.requires.ready.fast; n_bound = few s.args.frame s.args.at.done s.args.block s.requires.within_block s.requires.ready.block; t_within = s.requires.now_within; }
 
-add-t17 : tie.Need-overflow-add-t17
-add-t17 c =
-    let s = c.before.before.before.before.before.before.before.before.before.before.before.before.before in
-    let p : s.args.at.pieces ≤ 4294967296 = s.requires.1.1.1.1.1 in
+pub overflow-add-t17 : goal.overflow-add-t17
+overflow-add-t17 c =
+    let s = c in
+    let p : s.args.at.pieces ≤ 4294967296 = s.requires.pieces_bound in
     let n = s.args.frame - s.args.at.done in
     let g : Going = starting s.args.at.player s.args.out.now s.args.at.done n in
     let b = lending s.args.rec.now s.args.fade.now s.args.channels s.args.block in
-    let q : c.before.before.before.before.before.before.play-segment.result.pieces ≤ 0 + n =
-    subst (λ (m : ℕ). m ≤ 0 + n) (sym (ap (λ (x : Segment). x.pieces) c.before.before.before.before.before.before.play-segment.ensures)) (segment_pieces (clock_at s.args.setup.rate) s.args.setup b g) in
-    let r = few s.args.frame s.args.at.done s.args.block s.requires.1.1.0 s.requires.0.block in
+    let q : c.play_segment-played.result.pieces ≤ 0 + n =
+    subst (λ (m : ℕ). m ≤ 0 + n) (sym (ap (λ (x : Segment). x.pieces) c.play_segment-played.ensures)) (segment_pieces (clock_at s.args.setup.rate) s.args.setup b g) in
+    let r = few s.args.frame s.args.at.done s.args.block s.requires.within_block s.requires.ready.block in
     omega (arith, p, q, r)
 
-same_length : tie.Need-same-length
-same_length c = search rules
-
-returns : tie.Need-returns
+pub returns : goal.returns
 unfolding up_to
 returns c =
-    let s = c.before.before.before.before.before.before.before.before.before.before.before.before.before in
+    let s = c in
     let a = s.args.at in
     let n = s.args.frame - a.done in
     let R = s.args.setup.rate in
     let b : Lent = lending s.args.rec.now s.args.fade.now s.args.channels s.args.block in
     let g : Going = record { player = a.player; out = s.args.out.now; at = a.done; remaining = n; pieces = 0 } in
-    let p = c.before.before.before.before.before.before.play-segment in
-    let t = c.before.before.frames-later in
+    let p = c.play_segment-played in
+    let t = c.frames_later in
     ap (λ (x : Segment). record { player = x.player; out = x.out; done = s.args.frame; now = t.result.bits; pieces = a.pieces + x.pieces }) p.ensures
-    ∙ ap (λ (d : ℕ). record { player = (segment (clock_at R) s.args.setup b g).player; out = (segment (clock_at R) s.args.setup b g).out; done = d; now = t.result.bits; pieces = a.pieces + (segment (clock_at R) s.args.setup b g).pieces }) (sym (there a.done s.args.frame s.requires.1.0))
+    ∙ ap (λ (d : ℕ). record { player = (segment (clock_at R) s.args.setup b g).player; out = (segment (clock_at R) s.args.setup b g).out; done = d; now = t.result.bits; pieces = a.pieces + (segment (clock_at R) s.args.setup b g).pieces }) (sym (there a.done s.args.frame s.requires.not_past))
     ∙ ap (λ (z : ℤ). record { player = (segment (clock_at R) s.args.setup b g).player; out = (segment (clock_at R) s.args.setup b g).out; done = a.done + n; now = z; pieces = a.pieces + (segment (clock_at R) s.args.setup b g).pieces }) t.ensures
     ∙ ap (λ (h : Going). record { player = h.player; out = h.out; done = a.done + n; now = a.now.bits +ℤ time_of R n; pieces = h.pieces })
     (sym (segment_from (clock_at R) s.args.setup b (record { player = a.player; out = s.args.out.now; at = a.done; remaining = n; pieces = a.pieces })))
   where
     there : (d f : ℕ) → d ≤ f → d + (f - d) ≡ f
     there d f h = omega arith
-
-pub up-to-spec : {M : Type 1} → statement M
-up-to-spec = tie.close (tie.spec sub-n play-segment-requires frames-later-requires add-t17 same_length returns)

@@ -1,0 +1,21 @@
+-- `sampler_processor::block::frames_later` meets its contract.
+-- The idea: a time of a block and T of its frames are far below 2 ^ 63, so the sum is answered. Assumes nothing.
+use mathlib.Core.Path.{◌≡◌, sym, ap, ◌∙◌, subst}
+use lib.IntN.{ℤ, ◌+ℤ◌}
+use mir.Syntax.{w64}
+use mir.Val.{SFits}
+use borrow.Author.Rules.{rules}
+use Rattle.timestamp.specs.declared.TimeAnswer.{TimeAnswer}
+use Rattle.timestamp.specs.Time.{time_of}
+use Rattle.timestamp.specs.Answer.{plus}
+use Rattle.sampler_processor.proofs.Times.{sum_is, later_fits, up_to_lem}
+use Rattle.sampler_processor.proofs.block.frames_later.Goals as goal
+
+pub returns : goal.returns
+returns c =
+    let s = c in
+    let t = s.args.t.bits in
+    let e = c.time_of-by.ensures in
+    ap (λ (a : TimeAnswer). a.time.bits) c.add-moved.ensures
+    ∙ ap (λ (z : ℤ). (plus t z).time.bits) e
+    ∙ sum_is t (time_of s.args.rate s.args.n) (later_fits s.args.rate s.args.n t s.requires.slow s.requires.fast s.requires.n_bound (up_to_lem _ t s.requires.t_within))
