@@ -16,6 +16,7 @@ use std::io;
 use std::process::{Command, ExitCode, Stdio};
 use std::time::{Duration, Instant};
 
+const PROGRAM: &str = "crates/trial/out/trial";
 const RATE: usize = 48_000;
 const BLOCK: u16 = 480;
 const ENTRIES: usize = 2 * BLOCK as usize;
@@ -128,14 +129,14 @@ fn trial(row: &Row, recording: &[f32], fade: &[f32], empty: bool) -> Vec<u8> {
 
 fn program_time(file: &str) -> io::Result<Duration> {
     let start = Instant::now();
-    let status = Command::new("target/bin/trial").stdin(File::open(file)?).stdout(Stdio::null()).status()?;
+    let status = Command::new(PROGRAM).stdin(File::open(file)?).stdout(Stdio::null()).status()?;
     assert!(status.success());
     Ok(start.elapsed())
 }
 
 /// What the program answered at each visit.
 fn program_answers(row: &Row, file: &str) -> io::Result<Vec<Answer>> {
-    let answered = Command::new("target/bin/trial").stdin(File::open(file)?).output()?.stdout;
+    let answered = Command::new(PROGRAM).stdin(File::open(file)?).output()?.stdout;
     let mut rest = &answered[1..];
     let mut answers = Vec::new();
 

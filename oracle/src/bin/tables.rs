@@ -67,8 +67,7 @@ fn definitions() -> String {
     let mut text = String::from(
         "-- \"Tables for 48,000 (2,400 entries) and 8,000 (400) are taken from the Rust's output .., as f32 bits.\" Definitions only.\n\
          -- Written by `oracle/target/release/tables antt`, and not by hand.\n\
-         use Prim.Native.Nat.{ℕ}\n\
-         use mathlib.Core.List.{List, [], _∷_}\n",
+         use Rattle.std.specs.Prelude.{ℕ, List, [], ◌∷◌}\n",
     );
 
     for rate in RATES {
