@@ -7,7 +7,7 @@ use borrow.Author.Tests.{not-false}
 use lib.IntN.{ℤ}
 use lib.ListN.{drop}
 use lib.Ieee.{Float}
-use Rattle.laws.specs.Rules.{rule, first_broken}
+use Rattle.laws.specs.Rules.{first_broken}
 use Rattle.sampler_player.specs.Pieces.{Lent}
 use Rattle.sampler_player.specs.Sound.{far_bad}
 use Rattle.sampler_processor.specs.declared.Leg.{Leg}

@@ -24,8 +24,8 @@ made-blank s n (suc k) e z = ap (λ (i : ℕ). leg_answer i blank) e
 -- ---- a command: a is what the record is answered with
 
 module _ (l : Leg) (a : EventAnswer) where
-  pub commanded-refused : (a.number ≡ 0 → ⊥) → leg_answer a.number l ≡ commanded l a
-  commanded-refused z = rw (ne_eqb a.number 0 z) refl
+  pub commanded_refused : (a.number ≡ 0 → ⊥) → leg_answer a.number l ≡ commanded l a
+  commanded_refused z = rw (ne_eqb a.number 0 z) refl
 
   pub commanded-entered : (q : QueueAnswer) → q ≡ received a.event l.queue → a.number ≡ 0 → entered_in l q ≡ commanded l a
   commanded-entered q e z = rw (eq-eqb a.number 0 z) (ap (entered_in l) e)

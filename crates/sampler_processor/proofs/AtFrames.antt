@@ -26,7 +26,7 @@ use Rattle.sampler_player.specs.declared.Setup.{Setup}
 use Rattle.sampler_player.specs.Pieces.{Lent}
 use Rattle.sampler_processor.specs.declared.Leg.{Leg}
 use Rattle.sampler_processor.specs.Numbers.{render_order}
-use Rattle.sampler_processor.specs.Block.{Running, opening, block_end, up_to, applied, block}
+use Rattle.sampler_processor.specs.Block.{Running, opening, block_end, applied}
 use Rattle.sampler_processor.specs.Calls.{Rendered, rendered_to, rendered_by, render}
 use Rattle.sampler_processor.specs.AtFrames.{below, exact_frame, to_frame, delays, frame_and8, delay_above, delays_above, through_due, AtFrames}
 use Rattle.sampler_processor.proofs.Admitted.{admitted}
@@ -103,7 +103,7 @@ module _ (l : Leg) (b : Lent) (out : List Float) (s0 : ℕ) (z : first_broken (r
       let m = admitted l b out (pos s0) z in
       let r = ready l b out (pos s0) m in
       let w = queued s q (parts l m.is_sound).queue in
-      let o = ordered s.rate s.fade (pending q) w.each-one w.ordered in
+      let o = ordered s.rate s.fade (pending q) w.each_one w.ordered in
       let n = le_trans (length_pending q) w.few in
       let e : render l b out (pos s0) ≡ rendered_to s (through_due l b out (pos s0)) =
       ap (λ (k : ℕ). rendered_by k l b out (pos s0)) z

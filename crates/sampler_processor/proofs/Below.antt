@@ -49,7 +49,7 @@ Waits s l q = (pending q ≡ l) × (q.count ≤ 16) × (length q.events ≡ 16) 
 
 module _ (s : Setup) where
   pub waits : (q : Queue) → queue_good s q ≡ true → length q.events ≡ 16 → Waits s (pending q) q
-  waits q g places = let w = queued s q g in (refl, w.few, places, w.each-one, w.ordered)
+  waits q g places = let w = queued s q g in (refl, w.few, places, w.each_one, w.ordered)
 
   pub waits_good : (l : List Event) (q : Queue) → Waits s l q → queue_good s q ≡ true
   waits_good l q w =

@@ -1,6 +1,6 @@
 -- Through a whole block what plays stays within the limits of `kept`: so every segment's bound is enough, and the leg that is handed back is sound.
 -- The idea: `Stands` says how far the current time may be from the frames rendered, which bounds an event's delay. Assumes nothing.
-use mathlib.Core.Path.{◌≡◌, refl, sym, ◌∙◌, subst}
+use mathlib.Core.Path.{◌≡◌, refl, sym, subst}
 use mathlib.Core.Bool.{Bool, true, false, not, cond}
 use mathlib.Core.List.{List, [], ◌∷◌}
 use Prim.Native.Nat.{ℕ, suc, ◌+◌, ◌-◌, ◌*◌, ◌/◌, ◌^◌, ◌≤◌, ◌<◌}

@@ -42,7 +42,7 @@ module _ (l : Leg) (h : sound l ≡ true) (places : length l.queue.events ≡ 16
       let q = l.queue in
       let r = ready l b out (pos s0) a in
       let w = queued s q (parts l h).queue in
-      let o = ordered s.rate s.fade (pending q) w.each-one w.ordered in
+      let o = ordered s.rate s.fade (pending q) w.each_one w.ordered in
       let n = le_trans (length_pending q) w.few in
       whole (rendered_to s (through (pos s0))).answer.leg
       (record {
@@ -52,7 +52,7 @@ module _ (l : Leg) (h : sound l ≡ true) (places : length l.queue.events ≡ 16
             (subst (λ (x : ℕ). kept s x (through (pos s0)).running.player ≡ true) (spent b.block)
             (kept_through s b s0 r.slow r.fast some r.block soon (λ x g i small k. segment_kept s b r.slow r.fast r.table x small g i k)
             (λ x e z p small f d k. apply_kept s x r.fast small e z p f.0 f.1 d k) (pending q) q l.player out o w.ordered
-            (all_fit s (pending q) w.each-one) n (near l b out (pos s0) a)));
+            (all_fit s (pending q) w.each_one) n (near l b out (pos s0) a)));
         queue =
             subst (λ (z : Ended). queue_good s z.queue ≡ true) (sym (same_block s b s0 r.slow r.fast some r.block (pending q) q l.player out o w.ordered n))
             (waits_good s _ _ (left_waits s (block_end s b (pos s0)) (pending q) q (waits s q (parts l h).queue places)));

@@ -32,7 +32,7 @@ module _ (l : Leg) (h : sound l ≡ true) where
             queue_whole l.setup q
             (record {
               few = received_count e l.queue k.few;
-              each_one = received_each e l.queue (admissible l.setup.rate l.setup.fade) a k.each-one;
+              each_one = received_each e l.queue (admissible l.setup.rate l.setup.fade) a k.each_one;
               ordered = received_order e l.queue k.ordered;
             });
       })

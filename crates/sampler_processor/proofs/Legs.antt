@@ -56,7 +56,7 @@ queued s q e =
 
 pub queue_whole : (s : Setup) (q : Queue) → Queued s q → queue_good s q ≡ true
 unfolding queue_good
-queue_whole s q k = rw (le-leb q.count 16 k.few, k.each-one, k.ordered) refl
+queue_whole s q k = rw (le-leb q.count 16 k.few, k.each_one, k.ordered) refl
 
 pub none_waits : (s : Setup) (q : Queue) → q.count ≡ 0 → queue_good s q ≡ true
 unfolding queue_good

@@ -2,7 +2,7 @@
 -- The idea: 0 says that no rule of the order is broken, and a block of no frames changes nothing. Assumes nothing.
 use Prim.Native.Nat.{ℕ, zero, suc, ◌*◌, ◌≤◌, ◌<◌}
 use mathlib.Core.Path.{◌≡◌, refl, sym, ap, ◌∙◌, subst}
-use mathlib.Core.Bool.{Bool, true, false, ◌||◌, not}
+use mathlib.Core.Bool.{true, false, ◌||◌, not}
 use mathlib.Core.List.{List}
 use native.Mathlib.Omega.{arith}
 use borrow.Author.Tests.{ltb-false, eqb-true, eqb-false, not-false}
@@ -12,7 +12,6 @@ use lib.ListN.{length}
 use lib.Ieee.{Float}
 use Rattle.laws.specs.Rules.{first_broken}
 use Rattle.event_processor.specs.Queue.{pending}
-use Rattle.sampler_player.specs.declared.Setup.{Setup}
 use Rattle.sampler_player.specs.Pieces.{Lent}
 use Rattle.sampler_player.specs.inner.Lending.{Ready}
 use Rattle.sampler_player.specs.inner.Kept.{kept}
@@ -81,8 +80,8 @@ module _ (l : Leg) (b : Lent) (out : List Float) (start : ℤ) where
     where
       go : (k : ℕ) → first_broken (render_order l b out start) ≡ k → (not (eqb k 0) || eqb b.block 0) ≡ true → as_it_was k ≡ rendered_by k l b out start
       go zero z t =
-          let w = sound_sized l (admitted l b out start z).is-sound in
-          ap (rendered_to l.setup) (sym (no_frames l.setup b start w.rate-low w.rate-high (eqb-true b.block 0 t) (pending l.queue) l.queue l.player out))
+          let w = sound_sized l (admitted l b out start z).is_sound in
+          ap (rendered_to l.setup) (sym (no_frames l.setup b start w.rate_low w.rate_high (eqb-true b.block 0 t) (pending l.queue) l.queue l.player out))
       go (suc k) z t = refl
 
   -- a block

@@ -1,11 +1,10 @@
 -- A segment of no frames changes nothing, and one has no more pieces than frames.
 -- The idea: a pass that renders a piece takes at least a frame. Assumes nothing.
-use mathlib.Core.Path.{◌≡◌, refl, sym, ap, ◌∙◌}
+use mathlib.Core.Path.{◌≡◌, refl, ap}
 use mathlib.Core.Option.{Option, none, some}
-use Prim.Native.Nat.{ℕ, zero, suc, ◌+◌, ◌-◌, ◌^◌, ◌≤◌}
+use Prim.Native.Nat.{ℕ, zero, suc, ◌+◌, ◌^◌, ◌≤◌}
 use native.Mathlib.Nat.{le_refl, le_trans, le-add_right}
 use native.Mathlib.Omega.{arith}
-use lib.IntN.{ℤ, pos, ◌+ℤ◌, +ℤ_idr}
 use Rattle.sampler_player.specs.declared.Setup.{Setup}
 use Rattle.sampler_player.specs.Clock.{Clock}
 use Rattle.sampler_player.proofs.Passes.{Each, each_pass}

@@ -55,12 +55,12 @@ submit_kept l bytes = go (sound l)
 -- ---- inside a block that is not refused
 module _ (l : Leg) (b : Lent) (out : List Float) (start : ℤ) (c : Accepted l b start) where
   abbrev pub AlongAt : ℕ → ℕ → List Event → Running → Type 0
-  AlongAt = Along l.setup b (nat_abs start) c.sizes.rate-low c.sizes.rate-high c.few-frames
+  AlongAt = Along l.setup b (nat_abs start) c.sizes.rate_low c.sizes.rate_high c.few_frames
 
   pub along_opening : AlongAt 0 0 (pending l.queue) (opening l out start)
   along_opening =
       subst (λ (z : ℤ). AlongAt 0 0 (pending l.queue) (opening l out z)) (sym c.from.is)
-      (along_first l.setup b (nat_abs start) c.sizes.rate-low c.sizes.rate-high c.few-frames l.player out (pending l.queue) c.ordered c.few-events)
+      (along_first l.setup b (nat_abs start) c.sizes.rate_low c.sizes.rate_high c.few_frames l.player out (pending l.queue) c.ordered c.few_events)
 
   along_comes : (z : ℤ) (lo k : ℕ) (es fs : List Event) (q p : Queue) (r t : Running) → z ≡ pos (nat_abs start) → AlongAt lo k es r → Comes l.setup b z es q r fs p t
       → (lo' : ℕ) × (k' : ℕ) × AlongAt lo' k' fs t
@@ -68,7 +68,7 @@ module _ (l : Leg) (b : Lent) (out : List Float) (start : ℤ) (c : Accepted l b
   along_comes z lo k (e ∷ es) fs q p r t h a (on x w) =
       along_comes z a.ordered.0 (suc k) es fs _ p (past l.setup b z e r) t h
       (subst (λ (y : ℤ). AlongAt a.ordered.0 (suc k) es (past l.setup b y e r)) (sym h)
-      (along_next l.setup b (nat_abs start) c.sizes.rate-low c.sizes.rate-high c.few-frames lo k e es r a (subst (λ (y : ℤ). is_taken l.setup b y e r ≡ true) h x))) w
+      (along_next l.setup b (nat_abs start) c.sizes.rate_low c.sizes.rate_high c.few_frames lo k e es r a (subst (λ (y : ℤ). is_taken l.setup b y e r ≡ true) h x))) w
 
   pub along_midway : (fs : List Event) (p : Queue) (t : Running) → Comes l.setup b start (pending l.queue) l.queue (opening l out start) fs p t
       → (lo : ℕ) × (k : ℕ) × AlongAt lo k fs t
@@ -78,17 +78,17 @@ module _ (l : Leg) (b : Lent) (out : List Float) (start : ℤ) (c : Accepted l b
       → Moves l.setup.rate (told_of l.setup b start es r) r.player (block l.setup b start es q r).running.player
   rest_moves lo k es q r a =
       subst (λ (z : ℤ). Moves l.setup.rate (told_of l.setup b z es r) r.player (block l.setup b z es q r).running.player) (sym c.from.is)
-      (block_moves l.setup b (nat_abs start) c.sizes.rate-low c.sizes.rate-high c.few-frames lo k es q r a)
+      (block_moves l.setup b (nat_abs start) c.sizes.rate_low c.sizes.rate_high c.few_frames lo k es q r a)
 
   pub point_moves : (lo k : ℕ) (es : List Event) (r : Running) (a : Told) (p : Player) → AlongAt lo k es r → Inside l.setup b start es r a p → Moves l.setup.rate a r.player p
   point_moves lo k es r a p w i =
-      inside_moves l.setup b (nat_abs start) c.sizes.rate-low c.sizes.rate-high c.few-frames lo k es r a p w
+      inside_moves l.setup b (nat_abs start) c.sizes.rate_low c.sizes.rate_high c.few_frames lo k es r a p w
       (subst (λ (z : ℤ). Inside l.setup b z es r a p) c.from.is i)
 
   pub rest_count : (es : List Event) (q : Queue) (r : Running) → (block l.setup b start es q r).running.pieces ≡ r.pieces + length (told_of l.setup b start es r).pieces
   rest_count es q r =
       subst (λ (z : ℤ). (block l.setup b z es q r).running.pieces ≡ r.pieces + length (told_of l.setup b z es r).pieces) (sym c.from.is)
-      (block_count l.setup b (nat_abs start) c.sizes.rate-low c.sizes.rate-high c.few-frames es q r)
+      (block_count l.setup b (nat_abs start) c.sizes.rate_low c.sizes.rate_high c.few_frames es q r)
 
 -- ---- a call, and calls
 render_moves : (l : Leg) (b : Lent) (out : List Float) (start : ℤ) (n : ℕ) → (n ≡ 0 → Accepted l b start)

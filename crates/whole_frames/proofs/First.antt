@@ -40,10 +40,10 @@ midway_moves m a p (after {a = t} i) =
 
 -- ---- the first half: from inside a block, where a start was applied, and from a leg, such as a fresh one
 pub first_half : (m : Midway) (a : Told) (p : Player) → PointFrom m a p → no_start a → Drifts m.leg.setup.rate (length a.pieces) a.pieces m.running.player.position.bits p.position.bits
-first_half m a p i h = let w = midway_moves m a p i in drifts m.leg.setup.rate m.running.player.position.bits p.position.bits a.pieces w.each-timed (w.position h)
+first_half m a p i h = let w = midway_moves m a p i in drifts m.leg.setup.rate m.running.player.position.bits p.position.bits a.pieces w.each_timed (w.position h)
 
 pub first_half_leg : (l : Leg) (a : Told) (p : Player) → Point l a p → no_start a → Drifts l.setup.rate (length a.pieces) a.pieces l.player.position.bits p.position.bits
-first_half_leg l a p i h = let w = leg_moves l a p i in drifts l.setup.rate l.player.position.bits p.position.bits a.pieces w.each-timed (w.position h)
+first_half_leg l a p i h = let w = leg_moves l a p i in drifts l.setup.rate l.player.position.bits p.position.bits a.pieces w.each_timed (w.position h)
 
 wider : (R k n : ℕ) (ms : List ℕ) (D P : ℤ) → k ≤ n → Drifts R k ms D P → Drifts R n ms D P
 wider R k n ms D P h d = le_trans d (mul-le-mul_right R h)

@@ -34,17 +34,17 @@ module _ (l : Leg) (b : Lent) (out : List Float) (start : ℤ) (c : Accepted l b
   stop_few =
       le_trans
       (subst (λ (z : ℤ). next_stop l.setup b z es r ≤ b.block) (sym c.from.is)
-      (stop_inside l.setup b (nat_abs start) c.sizes.rate-low c.sizes.rate-high c.few-frames lo n es r w)) c.few-frames
+      (stop_inside l.setup b (nat_abs start) c.sizes.rate_low c.sizes.rate_high c.few_frames lo n es r w)) c.few_frames
 
   pub next_joined : (k x : ℕ) (i : Follows l.setup.rate k x f q r.player) → Placed l.setup r.player → i.at ≤ 2 ^ 48
       → Budget l.setup.rate (k + length (given_next l.setup b start es r).pieces) (given_next l.setup b start es r).completed
       → Joined l.setup f q k x r.player (up_to l.setup b start (next_stop l.setup b start es r) r).player (given_next l.setup b start es r).pieces
       (given_next l.setup b start es r ∷ []) (part_next l.setup b start es r ∷ [])
   next_joined k x i g h u =
-      part_joined l.setup f q b start (next_stop l.setup b start es r) c.sizes.rate-low c.sizes.rate-high c.sizes.frames-high stop_few k x r i g h u
+      part_joined l.setup f q b start (next_stop l.setup b start es r) c.sizes.rate_low c.sizes.rate_high c.sizes.frames_high stop_few k x r i g h u
 
   next_grows : r.player.completed ≤ (given_next l.setup b start es r).completed
-  next_grows = part_grows l.setup f q b start (next_stop l.setup b start es r) c.sizes.rate-low c.sizes.rate-high c.sizes.frames-high stop_few r
+  next_grows = part_grows l.setup f q b start (next_stop l.setup b start es r) c.sizes.rate_low c.sizes.rate_high c.sizes.frames_high stop_few r
 
 -- ---- from a leg
 module _ (f : ℕ) (q : Loop) where

@@ -67,7 +67,7 @@ module _ (l : Leg) (b : Lent) (out : List Float) (start : ℤ) (f : ℕ) (q : Lo
       → Heard k x e.running.player (told_of l.setup b start (pending l.queue) r).pieces e.running.out) (sym t.ended)
       (subst (λ (ms : List ℕ). Budget l.setup.rate (k + length ms) (up_to l.setup b start b.block r).player.completed
       → Heard k x (up_to l.setup b start b.block r).player ms (up_to l.setup b start b.block r).out) (sym t.pieces)
-      (part_joined l.setup f q b start b.block c.sizes.rate-low c.sizes.rate-high c.sizes.frames-high c.few-frames k x r i (placed_loops l.setup l.player c.loops)
+      (part_joined l.setup f q b start b.block c.sizes.rate_low c.sizes.rate_high c.sizes.frames_high c.few_frames k x r i (placed_loops l.setup l.player c.loops)
       (at_most l.player.position.bits i.at (2 ^ 48) i.position c.position))) u
 
   render_joined : (n : ℕ) → (n ≡ 0 → Accepted l b start) → (told_by n l b out start).events ≡ [] → (k x : ℕ) → Follows l.setup.rate k x f q l.player
@@ -83,7 +83,7 @@ module _ (l : Leg) (b : Lent) (out : List Float) (start : ℤ) (f : ℕ) (q : Lo
       let c = a refl in
       let r = opening l out start in
       subst (λ (e : Ended). r.player.completed ≤ e.running.player.completed) (sym (quiet_block l.setup b start (pending l.queue) l.queue r none).ended)
-      (part_grows l.setup f q b start b.block c.sizes.rate-low c.sizes.rate-high c.sizes.frames-high c.few-frames r)
+      (part_grows l.setup f q b start b.block c.sizes.rate_low c.sizes.rate_high c.sizes.frames_high c.few_frames r)
   render_grows (suc n) a none = le_refl _
 
 -- ---- calls

@@ -2,7 +2,6 @@
 -- The idea: the answer hangs on the number alone: 0 is the fresh leg, any other the blank one. Assumes nothing.
 use Rattle.sampler_processor.proofs.Answers.{made-fresh, made-blank}
 use Rattle.sampler_processor.specs.Calls.{make}
-use borrow.Author.Rules.{rules}
 use Rattle.sampler_processor.proofs.Leg.make.Goals as goal
 
 pub returns-then-number-eq0 : goal.returns-then-number-eq0

@@ -1,11 +1,9 @@
 -- `sampler_processor::Leg::sound` meets its contract.
 -- The idea: the parts are what the calls answer; sizes in range bound what `player_good` and `queue_good` ask; an empty queue is sound. Assumes nothing.
 use mathlib.Core.Path.{refl, sym, ◌∙◌}
-use borrow.Author.Tests.{not-true, not-false}
 use Rattle.sampler_processor.specs.Numbers.{sound}
 use Rattle.sampler_processor.proofs.Legs.{none_waits}
 use Rattle.sampler_processor.proofs.Sizes.{sized}
-use borrow.Author.Rules.{rules}
 use Rattle.sampler_processor.proofs.Leg.sound.Goals as goal
 
 pub returns-then-sizes_bad : goal.returns-then-sizes_bad

@@ -1,11 +1,9 @@
 -- `sampler_processor::Leg::submit` meets its contract.
 -- The idea: the tests are the definition's, in its order; a sound leg's sizes are what `command` asks. Assumes nothing.
 use mathlib.Core.Path.{refl, ap, sym, ◌∙◌}
-use borrow.Author.Tests.{not-true, not-false}
 use Rattle.sampler_processor.specs.Calls.{commanded, submit}
 use Rattle.sampler_processor.proofs.Answers.{commanded_refused, commanded-entered}
 use Rattle.sampler_processor.proofs.Legs.{sound_sized}
-use borrow.Author.Rules.{rules}
 use Rattle.sampler_processor.proofs.Leg.submit.Goals as goal
 
 pub returns-then-not-sound : goal.returns-then-not-sound

@@ -3,7 +3,6 @@
 use mathlib.Core.Path.{ap, ◌∙◌}
 use lib.IntN.{ℤ}
 use Rattle.event_processor.specs.Queue.{pending, first_before, is_due}
-use borrow.Author.Rules.{rules}
 use Rattle.sampler_processor.proofs.block.any_due.Goals as goal
 
 pub returns : goal.returns

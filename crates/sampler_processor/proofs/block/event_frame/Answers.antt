@@ -1,13 +1,11 @@
 -- `sampler_processor::block::event_frame` meets its contract.
 -- The idea: the branch is the definition's `later`, and the difference of two times of a block is answered. Assumes nothing.
-use mathlib.Core.Path.{◌≡◌, refl, sym, ap, ◌∙◌, subst}
+use mathlib.Core.Path.{◌≡◌, sym, ap, ◌∙◌}
 use mathlib.Core.Bool.{Bool, true, false, cond}
-use mathlib.Core.Logic.{⊎_elim}
 use lib.IntN.{ℤ, ◌-ℤ◌}
 use lib.Signed.{lt_z}
 use mir.Syntax.{w64}
 use mir.Val.{SFits}
-use borrow.Author.Rules.{rules}
 use Rattle.timestamp.specs.declared.TimeAnswer.{TimeAnswer}
 use Rattle.timestamp.specs.declared.Timestamp.{Timestamp}
 use Rattle.timestamp.specs.Time.{frame_at, later}
@@ -16,6 +14,7 @@ use Rattle.sampler_event.proofs.Limits.{UpTo}
 use Rattle.sampler_processor.specs.Block.{frame_of}
 use Rattle.sampler_processor.proofs.Times.{difference_is, apart_fits, up_to_lem}
 use Rattle.sampler_processor.proofs.block.event_frame.Goals as goal
+use Rattle.sampler_processor.proofs.block.event_frame.Goals.{then-is_before, else-is_before}
 
 -- the later of two times of a block is one of them
 one_of : (t : Bool) (a b : ℤ) {m : Prim.Native.Nat.ℕ} → UpTo m a → UpTo m b → UpTo m (cond t b a)
@@ -30,7 +29,11 @@ returns c =
     let time = s.args.time.bits in
     let now = s.args.now.bits in
     let start = s.args.start.bits in
-    let e : c.if-is_before.at.bits ≡ later time now = ⊎_elim (λ w. ap (λ (t : Timestamp). t.bits) w.1 ∙ ap (λ (b : Bool). cond b now time) (sym (sym i ∙ w.0.taken))) (λ w. ap (λ (t : Timestamp). t.bits) w.1 ∙ ap (λ (b : Bool). cond b now time) (sym (sym i ∙ w.0.left))) c.if-is_before.branch in
+    let e : c.if-is_before.at.bits ≡ later time now =
+    elim c.if-is_before.branch [
+      | then-is_before w ↦ ap (λ (t : Timestamp). t.bits) w.at-is ∙ ap (λ (b : Bool). cond b now time) (sym (sym i ∙ w.if-is_before.true))
+      | else-is_before w ↦ ap (λ (t : Timestamp). t.bits) w.at-is ∙ ap (λ (b : Bool). cond b now time) (sym (sym i ∙ w.if-is_before.false))
+    ] in
     let f : SFits w64 (later time now -ℤ start) = apart_fits (later time now) start (one_of (lt_z time now) time now (up_to_lem _ time s.requires.time_within) (up_to_lem _ now s.requires.now_within)) (up_to_lem _ start s.requires.start_within) in
     c.frame_at.ensures
     ∙ ap (λ (z : ℤ). frame_at s.args.rate z) (ap (λ (a : TimeAnswer). a.time.bits) c.sub-from_start.ensures ∙ ap (λ (z : ℤ). (minus z start).time.bits) e ∙ difference_is (later time now) start f)

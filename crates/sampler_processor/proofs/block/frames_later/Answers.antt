@@ -1,10 +1,7 @@
 -- `sampler_processor::block::frames_later` meets its contract.
 -- The idea: a time of a block and T of its frames are far below 2 ^ 63, so the sum is answered. Assumes nothing.
-use mathlib.Core.Path.{◌≡◌, sym, ap, ◌∙◌, subst}
-use lib.IntN.{ℤ, ◌+ℤ◌}
-use mir.Syntax.{w64}
-use mir.Val.{SFits}
-use borrow.Author.Rules.{rules}
+use mathlib.Core.Path.{ap, ◌∙◌}
+use lib.IntN.{ℤ}
 use Rattle.timestamp.specs.declared.TimeAnswer.{TimeAnswer}
 use Rattle.timestamp.specs.Time.{time_of}
 use Rattle.timestamp.specs.Answer.{plus}

@@ -6,7 +6,6 @@ use Prim.Native.Nat.{ℕ, ◌^◌, ◌≤◌}
 use lib.Dec.{T}
 use lib.IntN.{ℤ, pos, neg_ℤ, ◌-ℤ◌}
 use lib.Ieee.{Float}
-use borrow.Author.Rules.{rules}
 use Rattle.laws.specs.Rules.{within}
 use Rattle.sampler_event.specs.declared.Event.{Event}
 use Rattle.sampler_player.specs.declared.Setup.{Setup}
@@ -42,7 +41,7 @@ stands c =
 pub applied_to-requires : goal.applied_to-requires
 applied_to-requires c =
     let s = c in
-    let e = s.args.event.time.bits in record { fast = s.requires.ready.fast; positions_good = s.requires.reaches.places; delay_within = subst (λ (r : Running). T (within (neg_ℤ (pos (2 ^ 20))) (pos (2 ^ 49)) (r.now -ℤ e))) (sym (stands c.before.before)) s.requires.reaches.delay }
+    let e = s.args.event.time.bits in record { fast = s.requires.ready.fast; positions_good = s.requires.reaches.places; delay_within = subst (λ (r : Running). T (within (neg_ℤ (pos (2 ^ 20))) (pos (2 ^ 49)) (r.now -ℤ e))) (sym (stands c.before.before.before)) s.requires.reaches.delay }
 
 -- an event applied where the block stands is the definition's
 applied-is : (s : Setup) (b : Lent) (z : ℤ) (e : Event) (a : Stand) (out : List Float) → running (applied_to s.rate e a) out ≡ applied s b z e (running a out)
@@ -54,7 +53,7 @@ returns c =
     let s = c.args in
     let b = lending s.rec.now s.fade.now s.channels s.block in
     let u = c.before.before.before in
-    let out = u.up_to_lem.new.1.1.1.1.1.1.1.0 in
+    let out = u.up_to-reached.new.out in
     ap (λ (a : Stand). running a out) c.applied_to.ensures
-    ∙ applied-is s.setup b s.start.bits s.event u.up_to_lem.result out
-    ∙ ap (applied s.setup b s.start.bits s.event) (stands u)
+    ∙ applied-is s.setup b s.start.bits s.event u.up_to-reached.result out
+    ∙ ap (applied s.setup b s.start.bits s.event) (stands u.before)

@@ -1,31 +1,35 @@
 -- `sampler_processor::block::run_block` meets its contract.
 -- The idea: the loop carries a `Loop`; an event that is due is one step of the definition, and none due is its end. Assumes nothing.
 use mathlib.Core.Path.{◌≡◌, refl, sym, ap, ◌∙◌, subst}
-use mathlib.Core.Logic.{⊎_elim}
 use Prim.Native.Nat.{◌^◌, ◌<◌}
 use native.Mathlib.Nat.{le_refl, not-le_of_lt}
 use lib.Dec.{lit≤}
-use lib.ListN.{length, length-map}
+use lib.ListN.{length}
 use borrow.Author.Rules.{rules}
+use lib.IntN.{ℤ}
+use Rattle.sampler_event.specs.declared.Event.{Event}
 use Rattle.event_processor.specs.declared.Queue.{Queue}
 use Rattle.event_processor.specs.declared.Taken as Tk
 use Rattle.event_processor.specs.declared.First.TheVariants.{Nothing, Due}
 use Rattle.event_processor.specs.Queue.{pending, first_before, taken_before, without}
 use Rattle.event_processor.proofs.Front.{taken_due, due_less}
-use Rattle.sampler_player.specs.Pieces.{lending}
-use Rattle.sampler_processor.specs.Block.{opening, block as block_of}
 use Rattle.sampler_processor.proofs.Times.{up_to_lem, up_within, up_more}
-use Rattle.sampler_processor.proofs.Loops.{Loop, loop_first, loop_due, loop_next, loop_last, loop_end_lem}
+use Rattle.sampler_processor.proofs.Loops.{loop_first, loop_due, loop_next, loop_last, loop_end_lem}
 use Rattle.sampler_processor.proofs.block.run_block.Goals as goal
-use Rattle.sampler_processor.proofs.block.run_block.Lts as lts
-use Rattle.sampler_processor.proofs.block.run_block.Reads as reads
-use Rattle.sampler_processor.proofs.block.run_block.Tie as tie
+use Rattle.sampler_processor.proofs.block.run_block.Goals.{else-loop-at-test, then-loop-at-test+in-Nothing}
 
-abbrev In-Due : Type 0
-In-Due = lts.After-known_told tie.the-claims reads.Pre reads.Post goal.the-invariant-loop-at goal.the-decreases-loop-at tie.handed_clauses
+-- the first event of the queue is due, and the queue after it
+due : (end : ℤ) (q : Queue) (t : Tk.Taken) (e : Event) → t ≡ taken_before end q → t.first ≡ Due e → first_before end (pending q) ≡ Due e
+unfolding taken_before
+due end q t e h k = ap (λ (x : Tk.Taken). x.first) (sym h) ∙ k
 
-abbrev Left-loop-at : Type 0
-Left-loop-at = lts.Joined1 tie.the-claims reads.Pre reads.Post goal.the-invariant-loop-at goal.the-decreases-loop-at tie.handed_clauses
+left : (end : ℤ) (q : Queue) (t : Tk.Taken) (e : Event) → t ≡ taken_before end q → t.first ≡ Due e → t.queue ≡ without q
+left end q t e h k = ap (λ (x : Tk.Taken). x.queue) (h ∙ taken_due _ _ _ (due end q t e h k))
+
+-- no event is due
+none_due : (end : ℤ) (q : Queue) (t : Tk.Taken) → t ≡ taken_before end q → t.first ≡ Nothing → first_before end (pending q) ≡ Nothing
+unfolding taken_before
+none_due end q t h k = ap (λ (x : Tk.Taken). x.first) (sym h) ∙ k
 
 pub frames_later-end-requires : goal.frames_later-end-requires
 frames_later-end-requires c =
@@ -41,41 +45,20 @@ loop-at-init c =
 pub next_event_before-taken-requires : goal.next_event_before-taken-requires
 next_event_before-taken-requires c = tt
 
--- ---- an event is due
-due : (c : In-Due)
-    → let v = c in
-    first_before v.frames_later-end.result.bits (pending v.loop-at.waiting) ≡ Due c.in-Due.event
-unfolding taken_before
-due c = ap (λ (x : Tk.Taken). x.first) (sym c.next_event_before-taken.ensures) ∙ c.in-Due.is
-
--- the queue after it
-left : (c : In-Due) → c.next_event_before-taken.result.queue ≡ without c.loop-at.waiting
-left c = ap (λ (x : Tk.Taken). x.queue) (c.next_event_before-taken.ensures ∙ taken_due _ _ _ (due c))
-
 pub past_event-at-requires : goal.past_event-at-requires
 past_event-at-requires c =
-    let v = c.loop-at.invariant.1 in record { ready = v.lent; reaches = loop_due _ _ _ _ _ _ _ _ v _ (due c.before) }
+    let v = c.loop-at.invariant.1 in record { ready = v.lent; reaches = loop_due _ _ _ _ _ _ _ _ v _ (due c.frames_later-end.result.bits c.loop-at.waiting c.next_event_before-taken.result c.in-Due.event c.next_event_before-taken.ensures c.in-Due.is) }
 
 pub loop-at-smaller : goal.loop-at-smaller
 loop-at-smaller c =
-    let k = c.before.before.before.before.before in
-    let v = k.loop-at in
-    subst (λ (q : Queue). q.count < v.waiting.count) (sym (left k)) (due_less _ _ _ (due k))
+    subst (λ (q : Queue). q.count < c.loop-at.waiting.count) (sym (left c.frames_later-end.result.bits c.loop-at.waiting c.next_event_before-taken.result c.in-Due.event c.next_event_before-taken.ensures c.in-Due.is))
+    (due_less _ _ _ (due c.frames_later-end.result.bits c.loop-at.waiting c.next_event_before-taken.result c.in-Due.event c.next_event_before-taken.ensures c.in-Due.is))
 
 pub loop-at-preserved : goal.loop-at-preserved
 loop-at-preserved c =
-    let k = c.before.before.before.before.before in
-    let v = k.loop-at in
-    (search rules, loop_next _ _ _ _ _ _ _ _ v.invariant.1 _ (due k) _ _ _ (left k) c.past_event-at.ensures (search rules))
+    (search rules, loop_next _ _ _ _ _ _ _ _ c.loop-at.invariant.1 _ (due c.frames_later-end.result.bits c.loop-at.waiting c.next_event_before-taken.result c.in-Due.event c.next_event_before-taken.ensures c.in-Due.is) _ _ _ (left c.frames_later-end.result.bits c.loop-at.waiting c.next_event_before-taken.result c.in-Due.event c.next_event_before-taken.ensures c.in-Due.is) c.past_event-at.ensures (search rules))
 
 -- ---- the block's end
-
--- the loop ends where no event is due
-none-due : (c : Left-loop-at) → first_before c.frames_later-end.result.bits (pending c.loop-at.waiting) ≡ Nothing
-unfolding taken_before
-none-due c =
-    ⊎_elim (λ w. absurd (not-le_of_lt c.loop-at.invariant.1.turn.at.inside w.left))
-    (λ w. ap (λ (x : Tk.Taken). x.first) (sym w.1.ensures) ∙ w.3.given.1) c.loop-at-test.branch
 
 pub up_to-last-requires : goal.up_to-last-requires
 up_to-last-requires c =
@@ -84,5 +67,9 @@ up_to-last-requires c =
 
 pub returns : goal.returns
 returns c =
-    let v = c.loop-at in
-    loop_end_lem _ _ _ _ _ _ _ _ v.invariant.1 (none-due c.before.before.before.before.before) _ _ c.up_to-last.ensures
+    let none : first_before c.frames_later-end.result.bits (pending c.loop-at.waiting) ≡ Nothing =
+    elim c.loop-at-test.branch [
+      | else-loop-at-test w ↦ absurd (not-le_of_lt c.loop-at.invariant.1.turn.at.inside w.loop-at-test.false)
+      | then-loop-at-test+in-Nothing w ↦ none_due c.frames_later-end.result.bits c.loop-at.waiting w.next_event_before-taken.result w.next_event_before-taken.ensures w.in-Nothing.is
+    ] in
+    loop_end_lem _ _ _ _ _ _ _ _ c.loop-at.invariant.1 none _ _ c.up_to-last.ensures

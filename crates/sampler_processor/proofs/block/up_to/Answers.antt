@@ -1,14 +1,13 @@
 -- `sampler_processor::block::up_to` meets its contract.
 -- The idea: a segment counts its pieces on from those before it, and has no more of them than frames. Assumes nothing.
-use mathlib.Core.Path.{◌≡◌, refl, sym, ap, ◌∙◌, subst}
+use mathlib.Core.Path.{◌≡◌, sym, ap, ◌∙◌, subst}
 use Prim.Native.Nat.{ℕ, ◌+◌, ◌-◌, ◌≤◌}
 use native.Mathlib.Omega.{arith}
 use lib.IntN.{ℤ, ◌+ℤ◌}
-use borrow.Author.Rules.{rules}
 use Rattle.timestamp.specs.Time.{time_of}
 use Rattle.sampler_player.specs.Clock.{clock_at}
 use Rattle.sampler_player.specs.Pieces.{Lent, Going, Segment, segment}
-use Rattle.sampler_processor.specs.Block.{Running, up_to}
+use Rattle.sampler_processor.specs.Block.{up_to}
 use Rattle.sampler_player.specs.inner.Lending.{starting}
 use Rattle.sampler_player.specs.Pieces.{lending}
 use Rattle.sampler_player.proofs.Counting.{segment_from}
@@ -23,17 +22,18 @@ pub play_segment-played-requires : goal.play_segment-played-requires
 play_segment-played-requires c =
     let s = c in
     let a : s.args.at.done ≤ s.args.frame = s.requires.not_past in
-    let b : s.args.frame ≤ s.args.block = s.requires.within_block in let whole = (s.requires.ready, (reach s.args.at.done s.args.frame s.args.block a b, s.requires.player_kept))
+    let b : s.args.frame ≤ s.args.block = s.requires.within_block in
+    record { ready = s.requires.ready; within_block = reach s.args.at.done s.args.frame s.args.block a b; player_kept = s.requires.player_kept }
   where
     reach : (d f n : ℕ) → d ≤ f → f ≤ n → d + (f - d) ≤ n
-    reach d f n h k = omega arith in record { ready = whole.0; within_block = whole.1.0; player_kept = whole.1.1; }
+    reach d f n h k = omega arith
 
 pub frames_later-requires : goal.frames_later-requires
 frames_later-requires c =
-    let s = c in record { slow = s.requires.ready.slow; fast = s.requires.ready.fast; n_bound = few s.args.frame s.args.at.done s.args.block s.requires.within_block s.requires.ready.block; t_within = s.requires.now_within; }
+    let s = c in record { slow = s.requires.ready.slow; fast = s.requires.ready.fast; n_bound = few s.args.frame s.args.at.done s.args.block s.requires.within_block s.requires.ready.block; t_within = s.requires.now_within }
 
-pub overflow-add-t17 : goal.overflow-add-t17
-overflow-add-t17 c =
+pub overflow_add-result : goal.overflow_add-result
+overflow_add-result c =
     let s = c in
     let p : s.args.at.pieces ≤ 4294967296 = s.requires.pieces_bound in
     let n = s.args.frame - s.args.at.done in

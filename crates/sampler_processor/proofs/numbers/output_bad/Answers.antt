@@ -1,9 +1,9 @@
 -- `sampler_processor::numbers::output_bad` meets its contract.
 -- The idea: what is bad so far, or from i on, is what is bad at all. The measure is what is left of the length. Assumes nothing.
-use Prim.Native.Nat.{◌+◌, ◌-◌, ◌≤◌}
-use mathlib.Core.Path.{◌≡◌, refl, sym, ap, ◌∙◌}
+use Prim.Native.Nat.{◌+◌}
+use mathlib.Core.Path.{refl, sym, ap, ◌∙◌}
 use mathlib.Core.Bool.{Bool, ◌||◌}
-use lib.ListN.{length, drop}
+use lib.ListN.{drop}
 use borrow.Author.Rules.{rules}
 use native.Mathlib.Omega.{arith}
 use Rattle.sampler_processor.specs.Numbers.{output_bad}

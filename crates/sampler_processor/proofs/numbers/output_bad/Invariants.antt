@@ -1,13 +1,10 @@
 -- `sampler_processor::numbers::output_bad` meets its contract.
 -- The idea: what is bad so far, or from i on, is what is bad at all. The measure is what is left of the length. Assumes nothing.
-use Prim.Native.Nat.{◌+◌, ◌-◌, ◌≤◌}
-use mathlib.Core.Path.{◌≡◌, refl, sym, ap, ◌∙◌}
-use mathlib.Core.Bool.{Bool, ◌||◌}
+use Prim.Native.Nat.{◌-◌, ◌≤◌}
+use mathlib.Core.Path.{◌≡◌}
+use mathlib.Core.Bool.{◌||◌}
 use lib.ListN.{length, drop}
-use borrow.Author.Rules.{rules}
-use native.Mathlib.Omega.{arith}
 use Rattle.sampler_processor.specs.Numbers.{output_bad}
-use Rattle.sampler_processor.proofs.Output.{output_on, output_none}
 use Rattle.sampler_processor.proofs.numbers.output_bad.Given as goal
 
 abbrev pub invariant-loop-i : goal.invariant-loop-i

@@ -2,7 +2,6 @@
 -- The idea: the parts are what the calls answer. Assumes nothing.
 use mathlib.Core.Path.{refl}
 use Rattle.sampler_player.specs.Sound.{player_good}
-use borrow.Author.Rules.{rules}
 use Rattle.sampler_processor.proofs.sound.player_good.Goals as goal
 
 pub returns : goal.returns

@@ -1,16 +1,13 @@
 -- `sampler_processor::sound::queue_good` meets its contract.
 -- The idea: what the first i events leave to decide is `good` of the rest, with the time of the last one passed. The measure is what is left of the count. Assumes nothing.
-use Prim.Native.Nat.{◌-◌, ◌≤◌}
 use mathlib.Core.Path.{◌≡◌, refl, sym, ◌∙◌}
-use mathlib.Core.Bool.{◌&&◌}
 use native.Mathlib.Omega.{arith}
 use borrow.Author.Rules.{rules}
-use borrow.Author.Tests.{le-leb, lt-leb, not-true, not-false}
-use lib.ListN.{length, length-map, drop}
+use borrow.Author.Tests.{le-leb, lt-leb}
+use lib.ListN.{length}
 use Rattle.sampler_event.specs.Events.{blank_event}
 use Rattle.sampler_event.specs.Limits.{admissible}
-use Rattle.event_processor.specs.Queue.{pending, each, in_order}
-use Rattle.sampler_processor.proofs.Waiting.{good, good_whole, good_bad, good_early, good_on, good_none}
+use Rattle.sampler_processor.proofs.Waiting.{good_whole, good_bad, good_early, good_on, good_none}
 use Rattle.sampler_processor.specs.Numbers.{queue_good}
 use Rattle.sampler_processor.proofs.sound.queue_good.Goals as goal
 use Rattle.sampler_processor.proofs.sound.queue_good.Lts as lts
@@ -20,7 +17,7 @@ use Rattle.sampler_processor.proofs.sound.queue_good.Tie as tie
 abbrev Start : Type 0
 Start = lts.Start tie.the-claims reads.Pre reads.Post goal.the-invariant-loop-i goal.the-decreases-loop-i tie.handed_clauses
 
-sixteen : (s : Start) → length s.args.self.events ≡ 16
+sixteen : (s : Start) → length s.args.q.events ≡ 16
 sixteen s = s.well_formed.0.1.1.0.1.0.1
 
 pub returns-then-n-gt16 : goal.returns-then-n-gt16
@@ -30,7 +27,7 @@ returns-then-n-gt16 c = rw (lt-leb _ 16 c.if-n-gt16.true) refl
 pub loop-i-init : goal.loop-i-init
 loop-i-init c =
     let s = c in
-    (search rules, good_whole (admissible s.args.s.rate s.args.s.fade) s.args.self.events s.args.self.count blank_event)
+    (search rules, good_whole (admissible s.args.s.rate s.args.s.fade) s.args.q.events s.args.q.count blank_event)
 
 pub admissible-requires : goal.admissible-requires
 admissible-requires c = record { fast = c.requires.fast; fade_bound = c.requires.fade_bound }
@@ -39,7 +36,7 @@ pub returns-then-not-admissible : goal.returns-then-not-admissible
 unfolding queue_good
 returns-then-not-admissible c =
     let s = c.before.before.before.before.before.before.before.before.before in
-    let q = s.args.self in
+    let q = s.args.q in
     let l = sixteen s in
     let v = c.loop-i in
     let m = c.if-n-gt16.false in
@@ -50,7 +47,7 @@ pub returns-then-not-not_later : goal.returns-then-not-not_later
 unfolding queue_good
 returns-then-not-not_later c =
     let s = c.before.before.before.before.before.before.before.before.before.before.before in
-    let q = s.args.self in
+    let q = s.args.q in
     let l = sixteen s in
     let v = c.loop-i in
     let m = c.if-n-gt16.false in
@@ -60,7 +57,7 @@ returns-then-not-not_later c =
 pub loop-i-preserved : goal.loop-i-preserved
 loop-i-preserved c =
     let s = c.before.before.before.before.before.before.before.before.before.before.before in
-    let q = s.args.self in
+    let q = s.args.q in
     let l = sixteen s in
     let v = c.loop-i in
     let m = c.if-n-gt16.false in
@@ -71,7 +68,7 @@ pub returns : goal.returns
 unfolding queue_good
 returns c =
     let s = c.before.before.before.before.before in
-    let q = s.args.self in
+    let q = s.args.q in
     let l = sixteen s in
     let v = c.loop-i in
     let m = c.if-n-gt16.false in
