@@ -1,6 +1,6 @@
 -- Floats read from the file, one more at a turn.
 -- The idea: as long as their bytes were held at the start nothing is read, so each is the float of its four bytes there. Assumes nothing.
-use Rattle.std.proofs.Common.{◌≡◌, ℕ, ◌+◌, ◌-◌, ◌*◌, ◌%◌, ◌^◌, ◌<◌, ◌≤◌, List, length, take, set, refl, ap, ◌∙◌, inl, inr, le_refl, eq-or-lt_of_le, add-one, arith, take-suc-set}
+use Rattle.std.proofs.Common.{◌≡◌, ℕ, ◌+◌, ◌*◌, ◌%◌, ◌^◌, ◌<◌, ◌≤◌, List, length, take, set, refl, ap, ◌∙◌, inl, inr, le_refl, eq-or-lt_of_le, add-one, arith, take-suc-set}
 use lib.Seq.{take-set-le}
 use lib.Ieee.{Float}
 use Rattle.buffered.specs.declared.input.Input.{Input}
