@@ -7,9 +7,10 @@ mod calls;
 mod queue;
 mod row;
 
-const STDOUT: i32 = 1;
 use queue::{Judged, State};
 use row::Row;
+
+const STDOUT: i32 = 1;
 
 // The rows of one op: how many, and how many of them differ.
 #[derive(Clone, Copy)]

@@ -6,9 +6,10 @@
 mod piece;
 mod row;
 
-const STDOUT: i32 = 1;
 use row::Row;
 use sampler_voice::Voice;
+
+const STDOUT: i32 = 1;
 
 // The piece at hand and the count of those before it.
 #[derive(Clone, Copy)]
