@@ -1,6 +1,6 @@
 -- The bits of a signed number are those that `as_i64` takes back.
 -- The idea: from 2 ^ 63 on the number is below 0. Assumes nothing.
-use Rattle.std.proofs.Common.{◌≡◌, ℕ, ◌-◌, ◌^◌, ◌<◌, Bool, true, false, ltb, refl, arith}
+use Rattle.std.proofs.Common.{◌≡◌, ℕ, ◌^◌, ◌<◌, Bool, true, false, ltb, refl, arith}
 use Rattle.sampler_event.specs.Record.{as_i64}
 use Rattle.leg_bytes.specs.Write.{bits_of}
 

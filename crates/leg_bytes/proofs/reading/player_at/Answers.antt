@@ -1,0 +1,11 @@
+-- `leg_bytes::reading::player_at` meets its contract.
+-- The idea: the calls' equations. Assumes nothing.
+use Rattle.std.proofs.Common.{refl}
+use Rattle.leg_bytes.specs.Read.{player_at}
+use Rattle.leg_bytes.proofs.reading.player_at.Goals as goal
+
+pub returns : goal.returns
+unfolding player_at
+returns c = rw
+    (c.active_of.ensures, c.voice_at-first.ensures, c.voice_at-second.ensures, c.points_at-looped.ensures, c.number-number.ensures.value, c.time_at.ensures, c.time_at-2.ensures, c.number.ensures.value)
+    refl
