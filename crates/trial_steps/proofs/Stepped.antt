@@ -1,6 +1,6 @@
 -- A step from its parts: one that is malformed, one that is taken, and what came before it left the leg.
 -- The idea: whether there is more tells the two apart. Assumes nothing.
-use Rattle.std.proofs.Common.{◌≡◌, ℕ, ◌≤◌, true, false, List, sym, refl, ap, ◌∙◌, subst, ap₂, true≢false}
+use Rattle.std.proofs.Common.{◌≡◌, ℕ, ◌≤◌, true, List, sym, refl, ap, ◌∙◌, subst, ap₂, true≢false}
 use Rattle.buffered.specs.declared.input.Input.{Input}
 use Rattle.buffered.specs.Input.{held, number_at, Filled}
 use Rattle.sampler_processor.specs.declared.Leg.{Leg}
