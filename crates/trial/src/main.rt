@@ -4,7 +4,9 @@
 
 use buffered::input::Input;
 use buffered::{input, output};
+
 const STDERR: i32 = 2;
+
 use sampler_processor::Leg;
 use trial_steps::at::At;
 use trial_steps::{at, steps};
