@@ -8,11 +8,11 @@ use lib.IntN.{ℤ, pos, negsuc, ◌-ℤ◌}
 use lib.ListN.{replicate, take, drop, length}
 use lib.Ieee.{Float, binary32, of_bits, of_int, div, add, mul, neg, le, round, to_bits}
 use Rattle.timestamp.specs.Time.{time, time_of, seconds, frames_of, loop_end}
-use Rattle.sampler_voice.specs.declared.Phase.TheVariants.{FadingIn, Playing}
+use Rattle.sampler_voice.specs.declared.Phase.TheVariants.{Playing}
 use Rattle.sampler_fade.specs.Entry.{cleaned_fade, fade_at, one, none}
 use Rattle.sampler_voice.specs.Sound.{cleaned, fetched, added}
 use Rattle.sampler_voice.specs.Voices.{settled, next_phase, faded, sounded, frame, frames, mix, silent}
-use Rattle.sampler_event.specs.declared.Kind.TheVariants.{Start, CancelAll}
+use Rattle.sampler_event.specs.declared.Kind.TheVariants.{Start}
 use Rattle.sampler_event.specs.Record.{fields, event_of, read_record}
 use Rattle.sampler_event.specs.Limits.{event_fault, admissible}
 use Rattle.sampler_event.specs.Command.{command_answer}

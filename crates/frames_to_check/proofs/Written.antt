@@ -1,6 +1,6 @@
 -- What a leg is and answers as one list of numbers, so that a whole answer is compared by one test.
 -- The idea: a test on numbers computes in seconds where an equation of lists takes gigabytes. Assumes nothing.
-use Prim.Native.Nat.{ℕ, zero, suc}
+use Prim.Native.Nat.{ℕ, suc}
 use mathlib.Core.Bool.{Bool, true, false, ◌&&◌}
 use mathlib.Core.List.{List, [], ◌∷◌}
 use lib.Dec.{eqb}
