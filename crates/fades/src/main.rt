@@ -3,9 +3,10 @@
 // and its pieces, the bits before, in and after the fade, and a sum of all bits.
 #![tactic(auto)]
 
-const STDOUT: i32 = 1;
 use sampler_processor::{Leg, LegAnswer};
 use timestamp::Timestamp;
+
+const STDOUT: i32 = 1;
 
 // A call that is refused is one line more.
 fn taken(answer: LegAnswer) -> Leg {

@@ -2,9 +2,10 @@
 // own and prints the bits of m10's five samples, then of m11's frames 150 to 153.
 #![tactic(auto)]
 
-const STDOUT: i32 = 1;
 use sampler_processor::{Leg, LegAnswer};
 use timestamp::Timestamp;
+
+const STDOUT: i32 = 1;
 
 // A call that is refused is one line more.
 fn taken(answer: LegAnswer) -> Leg {
