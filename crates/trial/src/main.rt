@@ -4,12 +4,11 @@
 
 use buffered::input::Input;
 use buffered::{input, output};
-
-const STDERR: i32 = 2;
-
 use sampler_processor::Leg;
 use trial_steps::at::At;
 use trial_steps::{at, steps};
+
+const STDERR: i32 = 2;
 
 // ---- a trial's head
 
