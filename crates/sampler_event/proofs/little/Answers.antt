@@ -14,13 +14,12 @@ loop-i-init c =
     (search rules, (rw r refl, rw r (lit< tt)))
 
 -- what was read before a turn is below 2 ^ 56
-before-turn : (c : goal.In-loop-i) → c.loop-i.number < 2 ^ 56
-before-turn c =
-    let s = c in
-    seven (s.args.n - c.loop-i.i) c.loop-i.number (omega arith) c.loop-i.invariant.1.1
+before_turn : (c : goal.In-loop-i) → c.loop-i.number < 2 ^ 56
+before_turn c =
+    seven (c.args.n - c.loop-i.i) c.loop-i.number (omega arith) c.loop-i.invariant.1.1
 
 pub overflow_mul-number : goal.overflow_mul-number
-overflow_mul-number c = let b = before-turn c in omega arith
+overflow_mul-number c = let b = before_turn c in omega arith
 
 pub overflow_add-at : goal.overflow_add-at
 overflow_add-at c = omega (arith, c.well_formed.0.0)
@@ -47,4 +46,8 @@ returns c =
     let a = c.args in
     let i = c.loop-i.i in
     let n : a.n - i ≡ a.n = omega arith in
-    let p : a.at + i ≡ a.at = omega arith in record { value = rw (← n, ← p) c.loop-i.invariant.1.0; bound = rw (← n) c.loop-i.invariant.1.1 }
+    let p : a.at + i ≡ a.at = omega arith in
+    record {
+      value = rw (← n, ← p) c.loop-i.invariant.1.0;
+      bound = rw (← n) c.loop-i.invariant.1.1;
+    }

@@ -7,7 +7,10 @@ fade_in_value-requires c = c.requires.rising_in_bounds c.if-rising.true
 
 pub fade_out_value-requires : goal.fade_out_value-requires
 fade_out_value-requires c =
-    let s = c in record { position_nonzero = s.requires.falling_nonzero c.if-rising.false; position_in_bounds = s.requires.position_in_bounds }
+    record {
+      position_nonzero = c.requires.falling_nonzero c.if-rising.false;
+      position_in_bounds = c.requires.position_in_bounds;
+    }
 
 pub returns-then-rising : goal.returns-then-rising
 returns-then-rising c = rw c.if-rising.true c.fade_in_value.ensures

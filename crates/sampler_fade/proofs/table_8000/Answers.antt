@@ -9,4 +9,8 @@ pub fill-requires : goal.fill-requires
 fill-requires c = record { same_length = search rules; below_infinity = finite passes8000 c.bits_8000-bits.ensures }
 
 pub returns : goal.returns
-returns c = let whole = made passes8000 c.bits_8000-bits.ensures c.fill.ensures in record { value = whole.0; fade_rule = whole.1 }
+returns c = let whole = made passes8000 c.bits_8000-bits.ensures c.fill.ensures in
+    record {
+      value = whole.0;
+      fade_rule = whole.1;
+    }

@@ -6,5 +6,4 @@ use Rattle.sampler_fade.proofs.value.Goals as goal
 
 pub returns : goal.returns
 returns c =
-    let s = c in
-    c.clean.ensures ∙ sym (inside s.args.fade.now s.args.position s.requires)
+    c.clean.ensures ∙ sym (inside c.args.fade.now c.args.position c.requires)

@@ -8,10 +8,9 @@ use Rattle.timestamp.proofs.frame_at.Goals as goal
 
 pub whole_part-requires : goal.whole_part-requires
 whole_part-requires c =
-    let a = c in
-    let fit : SFits w64 a.args.t.bits = search rules in
-    let r : a.args.rate < 2 ^ 18 = omega (arith, a.requires) in
-    subst (λ (x : Float). T (lt x (fin false 1 (pos 64)))) (sym c.frames_of.ensures) (S-below a.args.rate a.args.t.bits 64 r fit (lit≤ tt))
+    let fit : SFits w64 c.args.t.bits = search rules in
+    let r : c.args.rate < 2 ^ 18 = omega (arith, c.requires) in
+    subst (λ (x : Float). T (lt x (fin false 1 (pos 64)))) (sym c.frames_of.ensures) (S-below c.args.rate c.args.t.bits 64 r fit (lit≤ tt))
 
 pub returns : goal.returns
 returns c = c.whole_part.ensures ∙ ap floor_of c.frames_of.ensures

@@ -9,8 +9,7 @@ use Rattle.timestamp.proofs.frames_of.Goals as goal
 pub int_to_float-result : goal.int_to_float-result
 unfolding in_float
 int_to_float-result c =
-    let a = c in
-    let h : a.args.rate ≤ 2 ^ 53 = omega (arith, a.requires) in
+    let h : c.args.rate ≤ 2 ^ 53 = omega (arith, c.requires) in
     le→leb _ _ h
 
 pub returns : goal.returns

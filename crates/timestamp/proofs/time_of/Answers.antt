@@ -23,8 +23,7 @@ int_to_float-rate c =
 pub returns : goal.returns
 unfolding from_seconds
 returns c =
-    let s = c in
-    let r : 2 ^ 12 ≤ s.args.rate = omega (arith, s.requires.slow) in
-    let r' : s.args.rate < 2 ^ 18 = omega (arith, s.requires.fast) in
+    let r : 2 ^ 12 ≤ c.args.rate = omega (arith, c.requires.slow) in
+    let r' : c.args.rate < 2 ^ 18 = omega (arith, c.requires.fast) in
     ap (λ (a : TimeAnswer). a.time.bits) c.from_seconds-made.ensures
-    ∙ ap (λ (o : Option ℤ). (made o).time.bits) (T-fits s.args.rate s.args.frames r r' s.requires.few)
+    ∙ ap (λ (o : Option ℤ). (made o).time.bits) (T-fits c.args.rate c.args.frames r r' c.requires.few)

@@ -8,13 +8,15 @@ pub loop-i-init : goal.loop-i-init
 loop-i-init c = (search rules, (rw c.blank-none.ensures refl, refl))
 
 pub loop-i-preserved : goal.loop-i-preserved
-loop-i-preserved c = let l = c.loop-i in
+loop-i-preserved c =
+    let l = c.loop-i in
     let p = c.place_at-read.ensures in
     (omega arith, (rw (add-one l.i, l.invariant.1.0, p) refl, rw (add-one l.i, l.invariant.1.1, p) refl))
 
 pub returns : goal.returns
 unfolding queue_at
-returns c = let l = c.loop-i in
+returns c =
+    let l = c.loop-i in
     let e : l.i ≡ 16 = omega arith in
     let p = rw e at l.invariant.1.0 in
     let g = rw e at l.invariant.1.1 in

@@ -9,12 +9,14 @@ pub loop-i-init : goal.loop-i-init
 loop-i-init c = (search rules, refl)
 
 pub loop-i-preserved : goal.loop-i-preserved
-loop-i-preserved c = let l = c.loop-i in
+loop-i-preserved c =
+    let l = c.loop-i in
     let q = c.args.queue in
     (omega arith, place_more q c.put.new.bytes l.bytes c.put_record.new.bytes l.i l.invariant.1 (rw c.place_of.ensures at c.put_record.ensures))
 
 pub returns : goal.returns
-returns c = let l = c.loop-i in
+returns c =
+    let l = c.loop-i in
     let a = c.args in
     let p = c.put in
     let e : l.i ≡ 16 = omega arith in

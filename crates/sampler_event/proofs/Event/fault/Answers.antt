@@ -15,8 +15,8 @@ abbrev Else-not-within : Type 0
 Else-not-within = lts.Else1 tie.the-claims reads.Pre reads.Post tie.handed_clauses
 
 -- past 10, and past 11
-in-time : (c : Else-not-within) → within (pos 0) (pos (2 ^ 48)) c.args.self.time.bits ≡ true
-in-time c = sym c.within.ensures ∙ c.if-not-within.false
+in_time : (c : Else-not-within) → within (pos 0) (pos (2 ^ 48)) c.args.self.time.bits ≡ true
+in_time c = sym c.within.ensures ∙ c.if-not-within.false
 
 in_place : (c : goal.Else-positions_bad) → positions_bad c.args.self.kind ≡ false
 in_place c = sym c.positions_bad.ensures ∙ c.if-positions_bad.false
@@ -27,15 +27,15 @@ returns-then-not-within c = rw (sym c.within.ensures ∙ c.if-not-within.true) r
 
 pub returns-then-positions_bad : goal.returns-then-positions_bad
 unfolding event_fault
-returns-then-positions_bad c = rw (in-time c.before.before, sym c.positions_bad.ensures ∙ c.if-positions_bad.true) refl
+returns-then-positions_bad c = rw (in_time c.before.before, sym c.positions_bad.ensures ∙ c.if-positions_bad.true) refl
 
 pub loop_bad-requires : goal.loop_bad-requires
 loop_bad-requires c = record { positions_good = in_place c; fast = c.requires.fast; fade_bound = c.requires.fade_bound }
 
 pub returns-then-loop_bad : goal.returns-then-loop_bad
 unfolding event_fault
-returns-then-loop_bad c = rw (in-time c.before.before.before.before, in_place c.before.before, sym c.loop_bad.ensures ∙ c.if-loop_bad.true) refl
+returns-then-loop_bad c = rw (in_time c.before.before.before.before, in_place c.before.before, sym c.loop_bad.ensures ∙ c.if-loop_bad.true) refl
 
 pub returns : goal.returns
 unfolding event_fault
-returns c = rw (in-time c.before.before.before.before, in_place c.before.before, sym c.loop_bad.ensures ∙ c.if-loop_bad.false) refl
+returns c = rw (in_time c.before.before.before.before, in_place c.before.before, sym c.loop_bad.ensures ∙ c.if-loop_bad.false) refl

@@ -13,14 +13,25 @@ use Rattle.sampler_player.specs.Events.{pointed, apply}
 use Rattle.sampler_player.proofs.Player.apply.Goals as goal
 
 pub start-requires : goal.start-requires
-start-requires c = record { fast = c.requires.fast; from_good = subst (λ (z : ℤ). place_bad z ≡ false) (sym c.zero.ensures) refl; delay_bound = subst (λ (z : ℤ). nat_abs z ≤ 2 ^ 49) (sym c.zero-in-StartImmediate.ensures) (omega arith) }
+start-requires c =
+    record {
+      fast = c.requires.fast;
+      from_good = subst (λ (z : ℤ). place_bad z ≡ false) (sym c.zero.ensures) refl;
+      delay_bound = subst (λ (z : ℤ). nat_abs z ≤ 2 ^ 49) (sym c.zero-in-StartImmediate.ensures) (omega arith);
+    }
 
 pub start-requires-in-Start : goal.start-requires-in-Start
-start-requires-in-Start c = let s = c in record { fast = s.requires.fast; from_good = subst (λ (k : Kind). positions_bad k ≡ false) c.in-Start.is s.requires.positions_good; delay_bound = s.requires.delay_bound }
+start-requires-in-Start c =
+    record {
+      fast = c.requires.fast;
+      from_good = subst (λ (k : Kind). positions_bad k ≡ false) c.in-Start.is c.requires.positions_good;
+      delay_bound = c.requires.delay_bound;
+    }
 
 pub returns-in-StartImmediate : goal.returns-in-StartImmediate
 unfolding apply
-returns-in-StartImmediate c = let a = c.args in
+returns-in-StartImmediate c =
+    let a = c.args in
     rw c.in-StartImmediate.is (c.start.ensures ∙ rw (c.zero.ensures, c.zero-in-StartImmediate.ensures) refl)
 
 pub returns-in-Start : goal.returns-in-Start

@@ -25,22 +25,31 @@ due_is R p from end n first loops h l e =
     ∙ ap (λ (z : ℤ). reaching (loop_length from end) (not_negative (p.position.bits -ℤ z +ℤ pos (half_frame R)))) e
 
 pub difference-first-requires : goal.difference-first-requires
-difference-first-requires c = let i = span c.args.setup c.in-Between.from c.in-Between.end c.args.self c.requires.player_kept c.in-Between.is in
+difference-first-requires c =
+    let i = span c.args.setup c.in-Between.from c.in-Between.end c.args.self c.requires.player_kept c.in-Between.is in
     let a = i.end_size in
     let b = i.numbers.begun.most in
     difference_fits c.in-Between.end.bits c.args.self.start.bits (omega (arith, a)) (omega (arith, b))
 
 pub difference-requires : goal.difference-requires
-difference-requires c = let i = span c.args.setup c.in-Between.from c.in-Between.end c.args.self c.requires.player_kept c.in-Between.is in
+difference-requires c =
+    let i = span c.args.setup c.in-Between.from c.in-Between.end c.args.self c.requires.player_kept c.in-Between.is in
     let a = i.end_size in
     let b = i.from_size in
     difference_fits c.in-Between.end.bits c.in-Between.from.bits (omega (arith, a)) (omega (arith, b))
 
 pub loops_due-due-requires : goal.loops_due-due-requires
-loops_due-due-requires c = let s = c in
+loops_due-due-requires c =
     let i = span c.args.setup c.in-Between.from c.in-Between.end c.args.self c.requires.player_kept c.in-Between.is in
     let l : c.units-length.result ≡ loop_length c.in-Between.from c.in-Between.end = c.units-length.ensures ∙ ap not_negative (c.difference.ensures ∙ i.length) in
-    record { slow = s.requires.slow; fast = s.requires.fast; position_bound = i.position_size; first_bound = subst (λ (z : ℤ). nat_abs z ≤ 2 ^ 42) (sym c.difference-first.ensures) i.first_size; length_nonzero = subst (λ (n : ℕ). 0 < n) (sym l) i.some_length; length_bound = subst (λ (n : ℕ). n ≤ 2 ^ 42) (sym l) i.length_size }
+    record {
+      slow = c.requires.slow;
+      fast = c.requires.fast;
+      position_bound = i.position_size;
+      first_bound = subst (λ (z : ℤ). nat_abs z ≤ 2 ^ 42) (sym c.difference-first.ensures) i.first_size;
+      length_nonzero = subst (λ (n : ℕ). 0 < n) (sym l) i.some_length;
+      length_bound = subst (λ (n : ℕ). n ≤ 2 ^ 42) (sym l) i.length_size;
+    }
 
 pub returns-in-Absent : goal.returns-in-Absent
 unfolding stroke_of
@@ -48,7 +57,8 @@ returns-in-Absent c = rw c.in-Absent.is refl
 
 pub returns-then-self-due : goal.returns-then-self-due
 unfolding stroke_of
-returns-then-self-due c = let a = c.args in
+returns-then-self-due c =
+    let a = c.args in
     let i = span c.args.setup c.in-Between.from c.in-Between.end c.args.self c.requires.player_kept c.in-Between.is in
     let L = loop_length c.in-Between.from c.in-Between.end in
     let d = due a.setup.rate c.in-Between.end a.self in
@@ -62,7 +72,8 @@ returns-then-self-due c = let a = c.args in
 
 pub returns-else-self-due : goal.returns-else-self-due
 unfolding stroke_of
-returns-else-self-due c = let a = c.args in
+returns-else-self-due c =
+    let a = c.args in
     let i = span c.args.setup c.in-Between.from c.in-Between.end c.args.self c.requires.player_kept c.in-Between.is in
     let L = loop_length c.in-Between.from c.in-Between.end in
     let d = due a.setup.rate c.in-Between.end a.self in

@@ -27,7 +27,13 @@ abbrev After-next_loop_position-end : Type 0
 After-next_loop_position-end = lts.After-next_loop_position tie.the-claims reads.Pre reads.Post tie.handed_clauses
 
 pub next_loop_position-end-requires : goal.next_loop_position-end-requires
-next_loop_position-end-requires c = let a = c.args in record { slow = c.requires.slow; fast = c.requires.fast; short = c.requires.short; player_kept = kept_less a.setup a.remaining 0 a.self (omega arith) (omega arith) c.requires.player_kept }
+next_loop_position-end-requires c = let a = c.args in
+    record {
+      slow = c.requires.slow;
+      fast = c.requires.fast;
+      short = c.requires.short;
+      player_kept = kept_less a.setup a.remaining 0 a.self (omega arith) (omega arith) c.requires.player_kept;
+    }
 
 here : (c : goal.Start) → Stands c.args.remaining c.args.self.position.bits
 here c =
@@ -84,7 +90,8 @@ pub overflow_add-units : goal.overflow_add-units
 overflow_add-units c = record { fits = let k = small c in omega (arith, k) }
 
 pub returns-then-is_before : goal.returns-then-is_before
-returns-then-is_before c = let a = c.args in
+returns-then-is_before c =
+    let a = c.args in
     let E = c.next_loop_position-end.result.bits in
     let P = a.self.position.bits in
     let R = a.setup.rate in
@@ -98,7 +105,8 @@ returns-then-is_before c = let a = c.args in
     ∙ sym (seen c.before.before.before.before.before.before.before)
 
 pub returns-else-is_before : goal.returns-else-is_before
-returns-else-is_before c = let a = c.args in
+returns-else-is_before c =
+    let a = c.args in
     let E = c.next_loop_position-end.result.bits in
     let i = here c.before.before.before.before.before.before in
     let h = i.high in

@@ -15,21 +15,27 @@ use Rattle.sampler_player.proofs.Ends.{loop_ends}
 use Rattle.sampler_player.proofs.Player.next_loop_position.Goals as goal
 
 pub difference-first-requires : goal.difference-first-requires
-difference-first-requires c = let i = span c.args.setup c.in-Between.from c.in-Between.end c.args.self c.requires.player_kept c.in-Between.is in
+difference-first-requires c =
+    let i = span c.args.setup c.in-Between.from c.in-Between.end c.args.self c.requires.player_kept c.in-Between.is in
     let a = i.end_size in
     let b = i.numbers.begun.most in
     difference_fits c.in-Between.end.bits c.args.self.start.bits (omega (arith, a)) (omega (arith, b))
 
 pub difference-requires : goal.difference-requires
-difference-requires c = let i = span c.args.setup c.in-Between.from c.in-Between.end c.args.self c.requires.player_kept c.in-Between.is in
+difference-requires c =
+    let i = span c.args.setup c.in-Between.from c.in-Between.end c.args.self c.requires.player_kept c.in-Between.is in
     let a = i.end_size in
     let b = i.from_size in
     difference_fits c.in-Between.end.bits c.in-Between.from.bits (omega (arith, a)) (omega (arith, b))
 
 pub loop_end-requires : goal.loop_end-requires
-loop_end-requires c = let i = span c.args.setup c.in-Between.from c.in-Between.end c.args.self c.requires.player_kept c.in-Between.is in
+loop_end-requires c =
+    let i = span c.args.setup c.in-Between.from c.in-Between.end c.args.self c.requires.player_kept c.in-Between.is in
     let l : c.units-length.result ≡ loop_length c.in-Between.from c.in-Between.end = c.units-length.ensures ∙ ap not_negative (c.difference.ensures ∙ i.length) in
-    record { length_nonzero = subst (λ (n : ℕ). 0 < n) (sym l) i.some_length; first_bound = subst (λ (z : ℤ). nat_abs z ≤ 2 ^ 42) (sym c.difference-first.ensures) i.first_size }
+    record {
+      length_nonzero = subst (λ (n : ℕ). 0 < n) (sym l) i.some_length;
+      first_bound = subst (λ (z : ℤ). nat_abs z ≤ 2 ^ 42) (sym c.difference-first.ensures) i.first_size;
+    }
 
 pub returns-in-Absent : goal.returns-in-Absent
 unfolding end_of
@@ -43,7 +49,8 @@ returns-in-Absent c =
 
 pub returns-in-Between : goal.returns-in-Between
 unfolding end_of
-returns-in-Between c = let a = c.args in
+returns-in-Between c =
+    let a = c.args in
     let i = span c.args.setup c.in-Between.from c.in-Between.end c.args.self c.requires.player_kept c.in-Between.is in
     let first = c.in-Between.end.bits -ℤ a.self.start.bits in
     let n = a.self.completed in

@@ -27,12 +27,20 @@ few : (s : Start) → s.args.n ≤ 4096
 few s = let b = s.requires.ready.block in omega (arith, b)
 
 pub render-heard-requires : goal.render-heard-requires
-render-heard-requires c = let s = c.before.before.before.before.before in
+render-heard-requires c =
+    let s = c.before.before.before.before.before in
     let a = s.args in
-    let r = s.requires.ready in record { output_room = (r.one_out, le_of_eq (sym r.out)); recording_room = (r.one, le_of_eq (sym r.recording)); within_output = s.requires.within_block; ahead = voices_near a.setup.fade a.n a.n a.self.voices (few s.before) (opened a.setup a.n a.self s.requires.player_kept).voices }
+    let r = s.requires.ready in
+    record {
+      output_room = (r.one_out, le_of_eq (sym r.out));
+      recording_room = (r.one, le_of_eq (sym r.recording));
+      within_output = s.requires.within_block;
+      ahead = voices_near a.setup.fade a.n a.n a.self.voices (few s.before) (opened a.setup a.n a.self s.requires.player_kept).voices;
+    }
 
 pub sum-position-requires : goal.sum-position-requires
-sum-position-requires c = let s = c.before.before.before.before.before.before.before.before.before in
+sum-position-requires c =
+    let s = c.before.before.before.before.before.before.before.before.before in
     let a = s.args in
     let i = stands a.n a.self.position.bits (few s.before.before) (opened a.setup a.n a.self s.requires.player_kept).position in
     let m = few s.before.before in
@@ -43,8 +51,8 @@ sum-position-requires c = let s = c.before.before.before.before.before.before.be
 
 pub returns : goal.returns
 unfolding rendered
-returns c = let s = c in
-    let a = s.args in
+returns c =
+    let a = c.args in
     let e : c.sum-position.result.bits ≡ a.self.position.bits +ℤ time_of a.setup.rate a.n =
     c.sum-position.ensures ∙ ap (λ (z : ℤ). a.self.position.bits +ℤ z) c.time_of.ensures in
     let left : Timestamp → Mixed → Segment =

@@ -20,6 +20,7 @@ sum-at-requires c =
     sum_fits u d (le_trans (place_up u c.requires.from_good).most (lit≤ tt)) (le_trans c.requires.delay_bound (lit≤ tt))
 
 pub returns : goal.returns
-returns c = let a = c.args in
+returns c =
+    let a = c.args in
     ap (λ (p : Player). begun a.from a.delay.bits p)
     (c.assign_voice-assigned.ensures ∙ ap (λ (n : ℕ). assign_at n a.self) (c.frame_near.ensures ∙ ap (λ (z : ℤ). frame_near a.rate z) c.sum-at.ensures))

@@ -6,7 +6,7 @@ use Rattle.sampler_player.proofs.Two.{stop_two}
 use Rattle.sampler_player.proofs.Player.stop.Goals as goal
 
 pub returns : goal.returns
-returns c = let s = c in
-    let p = s.args.self in
-    let l : length p.voices ≡ 2 = s.well_formed.0.1.1.0.1.0.1 in
+returns c =
+    let p = c.args.self in
+    let l : length p.voices ≡ 2 = c.well_formed.0.1.1.0.1.0.1 in
     c.with_voices.ensures ∙ rw (c.stop.ensures, c.stop-2.ensures) (sym (stop_two p l))

@@ -46,13 +46,26 @@ any_due-requires c =
     let e = c.before in
     let a = e.args in
     let r = ready a.self (lent e.before) a.out.now a.start.bits (admits e.before) in
-    let u = within_up (2 ^ 48) a.start.bits (not-false (within (pos 0) (pos (2 ^ 48)) a.start.bits) (admits e.before).begins) in record { slow = r.slow; fast = r.fast; block_bound = r.block; start_within = up_within (2 ^ 49) a.start.bits (up_more (2 ^ 48) (2 ^ 49) a.start.bits (lit≤ tt) u) }
+    let u = within_up (2 ^ 48) a.start.bits (not-false (within (pos 0) (pos (2 ^ 48)) a.start.bits) (admits e.before).begins) in
+    record {
+      slow = r.slow;
+      fast = r.fast;
+      block_bound = r.block;
+      start_within = up_within (2 ^ 49) a.start.bits (up_more (2 ^ 48) (2 ^ 49) a.start.bits (lit≤ tt) u);
+    }
 
 pub render_events-requires : goal.render_events-requires
 render_events-requires c =
     let e = c.before.before.before.before in
     let a = e.args in
-    let m = admits e.before in record { ready = ready a.self (lent e.before) a.out.now a.start.bits m; block_nonzero = (taken e.before).1; start_within = yes (not-false (within (pos 0) (pos (2 ^ 48)) a.start.bits) m.begins); player_kept = near a.self (lent e.before) a.out.now a.start.bits m; queue_sound = (parts a.self m.is_sound).queue }
+    let m = admits e.before in
+    record {
+      ready = ready a.self (lent e.before) a.out.now a.start.bits m;
+      block_nonzero = (taken e.before).1;
+      start_within = yes (not-false (within (pos 0) (pos (2 ^ 48)) a.start.bits) m.begins);
+      player_kept = near a.self (lent e.before) a.out.now a.start.bits m;
+      queue_sound = (parts a.self m.is_sound).queue;
+    }
 
 pub returns-then-any_due : goal.returns-then-any_due
 returns-then-any_due c =
@@ -63,7 +76,11 @@ returns-then-any_due c =
 pub render_on-requires : goal.render_on-requires
 render_on-requires c =
     let e = c.before.before.before.before in
-    let a = e.args in record { ready = ready a.self (lent e.before) a.out.now a.start.bits (admits e.before); player_kept = near a.self (lent e.before) a.out.now a.start.bits (admits e.before) }
+    let a = e.args in
+    record {
+      ready = ready a.self (lent e.before) a.out.now a.start.bits (admits e.before);
+      player_kept = near a.self (lent e.before) a.out.now a.start.bits (admits e.before);
+    }
 
 pub returns : goal.returns
 returns c =

@@ -12,7 +12,11 @@ returns-then-sizes_bad c = rw (sym c.sizes_bad.ensures ∙ c.if-sizes_bad.true) 
 
 pub player_good-requires : goal.player_good-requires
 player_good-requires c =
-    let z = sized c.args.self.setup (sym c.sizes_bad.ensures ∙ c.if-sizes_bad.false) in record { fast = z.rate_high; fade_bound = z.fade_high }
+    let z = sized c.args.self.setup (sym c.sizes_bad.ensures ∙ c.if-sizes_bad.false) in
+    record {
+      fast = z.rate_high;
+      fade_bound = z.fade_high;
+    }
 
 pub returns-then-not-player_good : goal.returns-then-not-player_good
 unfolding sound
@@ -26,7 +30,11 @@ returns-then-self-eq0 c =
 
 pub queue_good-requires : goal.queue_good-requires
 queue_good-requires c =
-    let z = sized c.args.self.setup (sym c.sizes_bad.ensures ∙ c.if-sizes_bad.false) in record { fast = z.rate_high; fade_bound = z.fade_high }
+    let z = sized c.args.self.setup (sym c.sizes_bad.ensures ∙ c.if-sizes_bad.false) in
+    record {
+      fast = z.rate_high;
+      fade_bound = z.fade_high;
+    }
 
 pub returns : goal.returns
 unfolding sound

@@ -12,7 +12,11 @@ returns-then-not-sound c = rw (sym c.sound.ensures ∙ c.if-not-sound.true) refl
 
 pub command-asked-requires : goal.command-asked-requires
 command-asked-requires c =
-    let z = sound_sized _ (sym c.sound.ensures ∙ c.if-not-sound.false) in record { fast = z.rate_high; fade_bound = z.fade_high }
+    let z = sound_sized _ (sym c.sound.ensures ∙ c.if-not-sound.false) in
+    record {
+      fast = z.rate_high;
+      fade_bound = z.fade_high;
+    }
 
 pub returns-then-number-ne0 : goal.returns-then-number-ne0
 unfolding submit

@@ -24,16 +24,15 @@ one_of false a b u v = u
 pub returns : goal.returns
 unfolding frame_of
 returns c =
-    let s = c in
     let i = c.is_before.ensures in
-    let time = s.args.time.bits in
-    let now = s.args.now.bits in
-    let start = s.args.start.bits in
+    let time = c.args.time.bits in
+    let now = c.args.now.bits in
+    let start = c.args.start.bits in
     let e : c.if-is_before.at.bits ≡ later time now =
     elim c.if-is_before.branch [
       | then-is_before w ↦ ap (λ (t : Timestamp). t.bits) w.at-is ∙ ap (λ (b : Bool). cond b now time) (sym (sym i ∙ w.if-is_before.true))
       | else-is_before w ↦ ap (λ (t : Timestamp). t.bits) w.at-is ∙ ap (λ (b : Bool). cond b now time) (sym (sym i ∙ w.if-is_before.false))
     ] in
-    let f : SFits w64 (later time now -ℤ start) = apart_fits (later time now) start (one_of (lt_z time now) time now (up_to_lem _ time s.requires.time_within) (up_to_lem _ now s.requires.now_within)) (up_to_lem _ start s.requires.start_within) in
+    let f : SFits w64 (later time now -ℤ start) = apart_fits (later time now) start (one_of (lt_z time now) time now (up_to_lem _ time c.requires.time_within) (up_to_lem _ now c.requires.now_within)) (up_to_lem _ start c.requires.start_within) in
     c.frame_at.ensures
-    ∙ ap (λ (z : ℤ). frame_at s.args.rate z) (ap (λ (a : TimeAnswer). a.time.bits) c.sub-from_start.ensures ∙ ap (λ (z : ℤ). (minus z start).time.bits) e ∙ difference_is (later time now) start f)
+    ∙ ap (λ (z : ℤ). frame_at c.args.rate z) (ap (λ (a : TimeAnswer). a.time.bits) c.sub-from_start.ensures ∙ ap (λ (z : ℤ). (minus z start).time.bits) e ∙ difference_is (later time now) start f)

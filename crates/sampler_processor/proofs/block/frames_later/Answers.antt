@@ -10,9 +10,8 @@ use Rattle.sampler_processor.proofs.block.frames_later.Goals as goal
 
 pub returns : goal.returns
 returns c =
-    let s = c in
-    let t = s.args.t.bits in
+    let t = c.args.t.bits in
     let e = c.time_of-by.ensures in
     ap (λ (a : TimeAnswer). a.time.bits) c.add-moved.ensures
     ∙ ap (λ (z : ℤ). (plus t z).time.bits) e
-    ∙ sum_is t (time_of s.args.rate s.args.n) (later_fits s.args.rate s.args.n t s.requires.slow s.requires.fast s.requires.n_bound (up_to_lem _ t s.requires.t_within))
+    ∙ sum_is t (time_of c.args.rate c.args.n) (later_fits c.args.rate c.args.n t c.requires.slow c.requires.fast c.requires.n_bound (up_to_lem _ t c.requires.t_within))

@@ -23,9 +23,16 @@ After-up_to-reached = lts.After-up_to tie.the-claims reads.Pre reads.Post tie.ha
 
 pub up_to-reached-requires : goal.up_to-reached-requires
 up_to-reached-requires c =
-    let s = c in
-    let p = s.requires.reaches in
-    let e = sym c.event_frame-frame.ensures in record { ready = s.requires.ready; not_past = subst (λ (n : ℕ). s.args.at.done ≤ n) e p.ahead; within_block = subst (λ (n : ℕ). n ≤ s.args.block) e p.inside; player_kept = p.limits; now_within = p.now; pieces_bound = p.pieces }
+    let p = c.requires.reaches in
+    let e = sym c.event_frame-frame.ensures in
+    record {
+      ready = c.requires.ready;
+      not_past = subst (λ (n : ℕ). c.args.at.done ≤ n) e p.ahead;
+      within_block = subst (λ (n : ℕ). n ≤ c.args.block) e p.inside;
+      player_kept = p.limits;
+      now_within = p.now;
+      pieces_bound = p.pieces;
+    }
 
 -- where the block stands at the event's frame
 stands : (c : After-up_to-reached)
@@ -40,13 +47,17 @@ stands c =
 
 pub applied_to-requires : goal.applied_to-requires
 applied_to-requires c =
-    let s = c in
-    let e = s.args.event.time.bits in record { fast = s.requires.ready.fast; positions_good = s.requires.reaches.places; delay_within = subst (λ (r : Running). T (within (neg_ℤ (pos (2 ^ 20))) (pos (2 ^ 49)) (r.now -ℤ e))) (sym (stands c.before.before.before)) s.requires.reaches.delay }
+    let e = c.args.event.time.bits in
+    record {
+      fast = c.requires.ready.fast;
+      positions_good = c.requires.reaches.places;
+      delay_within = subst (λ (r : Running). T (within (neg_ℤ (pos (2 ^ 20))) (pos (2 ^ 49)) (r.now -ℤ e))) (sym (stands c.before.before.before)) c.requires.reaches.delay;
+    }
 
 -- an event applied where the block stands is the definition's
-applied-is : (s : Setup) (b : Lent) (z : ℤ) (e : Event) (a : Stand) (out : List Float) → running (applied_to s.rate e a) out ≡ applied s b z e (running a out)
+applied_is : (s : Setup) (b : Lent) (z : ℤ) (e : Event) (a : Stand) (out : List Float) → running (applied_to s.rate e a) out ≡ applied s b z e (running a out)
 unfolding applied
-applied-is s b z e a out = refl
+applied_is s b z e a out = refl
 
 pub returns : goal.returns
 returns c =
@@ -55,5 +66,5 @@ returns c =
     let u = c.before.before.before in
     let out = u.up_to-reached.new.out in
     ap (λ (a : Stand). running a out) c.applied_to.ensures
-    ∙ applied-is s.setup b s.start.bits s.event u.up_to-reached.result out
+    ∙ applied_is s.setup b s.start.bits s.event u.up_to-reached.result out
     ∙ ap (applied s.setup b s.start.bits s.event) (stands u.before)

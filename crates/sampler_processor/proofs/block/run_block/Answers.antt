@@ -33,21 +33,29 @@ none_due end q t h k = ap (λ (x : Tk.Taken). x.first) (sym h) ∙ k
 
 pub frames_later-end-requires : goal.frames_later-end-requires
 frames_later-end-requires c =
-    let s = c in
-    let t = s.args.start.bits in record { slow = s.requires.ready.slow; fast = s.requires.ready.fast; n_bound = s.requires.ready.block; t_within = up_within (2 ^ 49) t (up_more (2 ^ 48) (2 ^ 49) t (lit≤ tt) (up_to_lem (2 ^ 48) t s.requires.start_within)) }
+    let t = c.args.start.bits in
+    record {
+      slow = c.requires.ready.slow;
+      fast = c.requires.ready.fast;
+      n_bound = c.requires.ready.block;
+      t_within = up_within (2 ^ 49) t (up_more (2 ^ 48) (2 ^ 49) t (lit≤ tt) (up_to_lem (2 ^ 48) t c.requires.start_within));
+    }
 
 pub loop-at-init : goal.loop-at-init
 loop-at-init c =
-    let s = c in
-    let sixteen : length s.args.queue.events ≡ 16 = s.well_formed.1.1.0.1.1.0.1.0.1 in
-    (refl, loop_first _ _ _ _ _ _ _ s.requires.ready s.requires.block_nonzero s.requires.start_within c.frames_later-end.ensures s.requires.player_kept s.requires.queue_sound sixteen)
+    let sixteen : length c.args.queue.events ≡ 16 = c.well_formed.1.1.0.1.1.0.1.0.1 in
+    (refl, loop_first _ _ _ _ _ _ _ c.requires.ready c.requires.block_nonzero c.requires.start_within c.frames_later-end.ensures c.requires.player_kept c.requires.queue_sound sixteen)
 
 pub next_event_before-taken-requires : goal.next_event_before-taken-requires
 next_event_before-taken-requires c = tt
 
 pub past_event-at-requires : goal.past_event-at-requires
 past_event-at-requires c =
-    let v = c.loop-at.invariant.1 in record { ready = v.lent; reaches = loop_due _ _ _ _ _ _ _ _ v _ (due c.frames_later-end.result.bits c.loop-at.waiting c.next_event_before-taken.result c.in-Due.event c.next_event_before-taken.ensures c.in-Due.is) }
+    let v = c.loop-at.invariant.1 in
+    record {
+      ready = v.lent;
+      reaches = loop_due _ _ _ _ _ _ _ _ v _ (due c.frames_later-end.result.bits c.loop-at.waiting c.next_event_before-taken.result c.in-Due.event c.next_event_before-taken.ensures c.in-Due.is);
+    }
 
 pub loop-at-smaller : goal.loop-at-smaller
 loop-at-smaller c =
@@ -63,7 +71,15 @@ loop-at-preserved c =
 pub up_to-last-requires : goal.up_to-last-requires
 up_to-last-requires c =
     let v = c.loop-at.invariant.1 in
-    let u = loop_last _ _ _ _ _ _ _ _ v in record { ready = v.lent; not_past = u.0; within_block = le_refl _; player_kept = u.1; now_within = u.2; pieces_bound = u.3 }
+    let u = loop_last _ _ _ _ _ _ _ _ v in
+    record {
+      ready = v.lent;
+      not_past = u.0;
+      within_block = le_refl _;
+      player_kept = u.1;
+      now_within = u.2;
+      pieces_bound = u.3;
+    }
 
 pub returns : goal.returns
 returns c =

@@ -26,8 +26,7 @@ returns-then-n-gt16 c = rw (lt-leb _ 16 c.if-n-gt16.true) refl
 
 pub loop-i-init : goal.loop-i-init
 loop-i-init c =
-    let s = c in
-    (search rules, good_whole (admissible s.args.s.rate s.args.s.fade) s.args.q.events s.args.q.count blank_event)
+    (search rules, good_whole (admissible c.args.s.rate c.args.s.fade) c.args.q.events c.args.q.count blank_event)
 
 pub admissible-requires : goal.admissible-requires
 admissible-requires c = record { fast = c.requires.fast; fade_bound = c.requires.fade_bound }

@@ -19,7 +19,11 @@ overflow_add-f c = omega arith
 
 pub fade_value-g-requires : goal.fade_value-g-requires
 fade_value-g-requires c =
-    let s = c in record { rising_in_bounds = (λ e. omega arith); falling_nonzero = (λ e. omega (arith, s.requires.falling_nonzero e)); position_in_bounds = omega arith }
+    record {
+      rising_in_bounds = (λ e. omega arith);
+      falling_nonzero = (λ e. omega (arith, c.requires.falling_nonzero e));
+      position_in_bounds = omega arith;
+    }
 
 pub overflow_add-j : goal.overflow_add-j
 overflow_add-j c = omega arith
@@ -29,15 +33,18 @@ overflow_add-p c = omega arith
 
 pub fetch-requires : goal.fetch-requires
 fetch-requires c =
-    let s = c in record { recording_room = s.requires.recording_room; within_recording = omega arith }
+    record { recording_room = c.requires.recording_room; within_recording = omega arith }
 
 pub scaled-requires : goal.scaled-requires
 scaled-requires c = tt
 
 pub put-requires : goal.put-requires
 put-requires c =
-    let s = c in
-    let l = c.loop-i in record { output_room = Room.same s.args.channels.output s.args.n s.args.out.now l.out l.invariant.1 s.requires.output_room; within_output = omega arith }
+    let l = c.loop-i in
+    record {
+      output_room = Room.same c.args.channels.output c.args.n c.args.out.now l.out l.invariant.1 c.requires.output_room;
+      within_output = omega arith;
+    }
 
 pub overflow_add-i : goal.overflow_add-i
 overflow_add-i c = omega arith
@@ -47,8 +54,7 @@ loop-i-smaller c = omega arith
 
 pub loop-i-preserved : goal.loop-i-preserved
 loop-i-preserved c =
-    let s = c in
-    let a = s.args in
+    let a = c.args in
     let l = c.loop-i in
     let below = c.loop-i-test.true in
     let put = c.put in
@@ -60,7 +66,7 @@ loop-i-preserved c =
       omega (arith, below),
       put.auto.out ∙ l.invariant.1,
       step a.rec.now a.rn a.fade.now a.n a.channels (fading a.rising a.f) a.p a.j l.i a.out.now l.out put.new.out
-          scaled.result (omega (arith, below, s.requires)) (fading_sounds a.rising a.f l.i) l.invariant.2 q put.ensures,
+          scaled.result (omega (arith, below, c.requires)) (fading_sounds a.rising a.f l.i) l.invariant.2 q put.ensures,
     )
 
 pub returns : goal.returns

@@ -21,12 +21,15 @@ overflow_add-p c = omega arith
 
 pub fetch-requires : goal.fetch-requires
 fetch-requires c =
-    let s = c in record { recording_room = s.requires.recording_room; within_recording = omega arith }
+    record { recording_room = c.requires.recording_room; within_recording = omega arith }
 
 pub put-requires : goal.put-requires
 put-requires c =
-    let s = c in
-    let l = c.loop-i in record { output_room = Room.same s.args.channels.output s.args.n s.args.out.now l.out l.invariant.1 s.requires.output_room; within_output = omega arith }
+    let l = c.loop-i in
+    record {
+      output_room = Room.same c.args.channels.output c.args.n c.args.out.now l.out l.invariant.1 c.requires.output_room;
+      within_output = omega arith;
+    }
 
 pub overflow_add-i : goal.overflow_add-i
 overflow_add-i c = omega arith
@@ -37,8 +40,7 @@ loop-i-smaller c = omega arith
 pub loop-i-preserved : goal.loop-i-preserved
 unfolding later faded
 loop-i-preserved c =
-    let s = c in
-    let a = s.args in
+    let a = c.args in
     let l = c.loop-i in
     let put = c.put in (
       omega arith,

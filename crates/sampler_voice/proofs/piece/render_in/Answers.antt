@@ -9,9 +9,8 @@ use Rattle.sampler_voice.proofs.piece.render_in.Goals as goal
 
 pub returns-then-all-i : goal.returns-then-all-i
 returns-then-all-i c =
-    let s = c in
-    let a = s.args in
-    rw c.render_playing.ensures (sym (in_over a.rec.now a.rn a.fade.now a.n a.channels a.i a.p a.j a.k a.out.now c.if-all-i.true s.requires.some_frames))
+    let a = c.args in
+    rw c.render_playing.ensures (sym (in_over a.rec.now a.rn a.fade.now a.n a.channels a.i a.p a.j a.k a.out.now c.if-all-i.true c.requires.some_frames))
 
 pub returns-then-k-left : goal.returns-then-k-left
 returns-then-k-left c =

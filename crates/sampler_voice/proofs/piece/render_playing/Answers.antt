@@ -8,8 +8,13 @@ use Rattle.sampler_voice.proofs.piece.render_playing.Goals as goal
 
 pub play-requires : goal.play-requires
 play-requires c =
-    let s = c in
-    let r = c.reach-m.ensures in record { output_room = s.requires.output_room; recording_room = s.requires.recording_room; within_output = omega (arith, r.few, s.requires); within_recording = r.in_it }
+    let r = c.reach-m.ensures in
+    record {
+      output_room = c.requires.output_room;
+      recording_room = c.requires.recording_room;
+      within_output = omega (arith, r.few, c.requires);
+      within_recording = r.in_it;
+    }
 
 pub returns-then-p-rn : goal.returns-then-p-rn
 returns-then-p-rn c =

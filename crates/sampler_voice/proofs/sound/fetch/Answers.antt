@@ -19,20 +19,19 @@ Then-both = lts.Then1 tie.the-claims reads.Pre reads.Post tie.handed_clauses
 left_in : (s : Start) → s.args.p < length s.args.rec.now
 left_in s = Room.first s.args.channels.recording s.args.rn s.args.p s.args.rec.now s.requires.recording_room s.requires.within_recording
 
-right-in : (c : Then-both) → c.args.rn + c.args.p < length c.args.rec.now
-right-in c =
-    let s = c in
-    let a = s.args in
-    Room.second a.channels.recording a.rn a.p a.rec.now (Room.both_there a.channels (sym c.both.ensures ∙ c.if-both.true)).0 s.requires.recording_room s.requires.within_recording
+right_in : (c : Then-both) → c.args.rn + c.args.p < length c.args.rec.now
+right_in c =
+    let a = c.args in
+    Room.second a.channels.recording a.rn a.p a.rec.now (Room.both_there a.channels (sym c.both.ensures ∙ c.if-both.true)).0 c.requires.recording_room c.requires.within_recording
 
 pub sample-requires : goal.sample-requires
 sample-requires c = left_in c.before.before.before.before
 
 pub overflow_add-rn : goal.overflow_add-rn
-overflow_add-rn c = omega (arith, right-in c.before.before)
+overflow_add-rn c = omega (arith, right_in c.before.before)
 
 pub sample-requires-then-both : goal.sample-requires-then-both
-sample-requires-then-both c = right-in c.before.before
+sample-requires-then-both c = right_in c.before.before
 
 pub sample-requires-else-both : goal.sample-requires-else-both
 sample-requires-else-both c = left_in c.before.before.before.before

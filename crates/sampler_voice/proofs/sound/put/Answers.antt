@@ -9,20 +9,18 @@ use Rattle.sampler_voice.proofs.sound.put.Goals as goal
 
 pub add_at-requires : goal.add_at-requires
 add_at-requires c =
-    let s = c in
-    Room.first s.args.channels.output s.args.n s.args.j s.args.out.now s.requires.output_room s.requires.within_output
+    Room.first c.args.channels.output c.args.n c.args.j c.args.out.now c.requires.output_room c.requires.within_output
 
-right-in : (c : goal.After-add_at-arg-then-both-1) → c.args.n + c.args.j < length c.args.out.now
-right-in c =
-    let s = c in
-    let a = s.args in
-    Room.second a.channels.output a.n a.j a.out.now (Room.both_there a.channels (sym c.both.ensures ∙ c.if-both.true)).1 s.requires.output_room s.requires.within_output
+right_in : (c : goal.After-add_at-arg-then-both-1) → c.args.n + c.args.j < length c.args.out.now
+right_in c =
+    let a = c.args in
+    Room.second a.channels.output a.n a.j a.out.now (Room.both_there a.channels (sym c.both.ensures ∙ c.if-both.true)).1 c.requires.output_room c.requires.within_output
 
 pub overflow_add-n : goal.overflow_add-n
-overflow_add-n c = omega (arith, right-in c)
+overflow_add-n c = omega (arith, right_in c)
 
 pub add_at-requires-then-both : goal.add_at-requires-then-both
-add_at-requires-then-both c = omega (arith, right-in c, c.add_at.auto.out)
+add_at-requires-then-both c = omega (arith, right_in c, c.add_at.auto.out)
 
 pub returns-then-both : goal.returns-then-both
 returns-then-both c =

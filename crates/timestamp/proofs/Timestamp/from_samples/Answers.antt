@@ -9,9 +9,8 @@ use Rattle.timestamp.proofs.Timestamp.from_samples.Goals as goal
 pub int_to_float-rate : goal.int_to_float-rate
 unfolding in_float
 int_to_float-rate c =
-    let a = c in
-    let h = rate_most a.args.rate (sym a.in_rate.ensures ∙ c.if-in_rate.true) in
-    let k : a.args.rate ≤ 2 ^ 53 = omega (arith, h) in
+    let h = rate_most c.args.rate (sym c.in_rate.ensures ∙ c.if-in_rate.true) in
+    let k : c.args.rate ≤ 2 ^ 53 = omega (arith, h) in
     le→leb _ _ k
 
 pub returns-then-in_rate : goal.returns-then-in_rate

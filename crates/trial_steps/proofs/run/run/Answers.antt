@@ -17,7 +17,11 @@ pub bits_sum-requires : goal.bits_sum-requires
 bits_sum-requires c =
     let r = c.render-last in
     let z = c.clear in
-    let l = c.loop-left in record { length_bound = subst (λ (n : ℕ). n ≤ 65536) (sym (r.auto.out ∙ z.auto.entries ∙ l.invariant.0)) l.invariant.1; numbers = subst Numbers (sym (ap (λ (x : Rendered). x.out) r.ensures)) (render_numbers _ _ _ _ z.ensures) }
+    let l = c.loop-left in
+    record {
+      length_bound = subst (λ (n : ℕ). n ≤ 65536) (sym (r.auto.out ∙ z.auto.entries ∙ l.invariant.0)) l.invariant.1;
+      numbers = subst Numbers (sym (ap (λ (x : Rendered). x.out) r.ensures)) (render_numbers _ _ _ _ z.ensures);
+    }
 
 pub overflow_sub-left : goal.overflow_sub-left
 overflow_sub-left c = c.loop-left-test.true
