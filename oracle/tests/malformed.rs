@@ -6,7 +6,7 @@ use oracle::effects::sampler::VoicePhase;
 use oracle::leg::{Leg, Sizes, LEG_BYTES};
 use oracle::trial_file::{Head, Step, Trial};
 use std::env;
-use std::io::Write;
+use std::io::{ErrorKind, Write};
 use std::process::{Command, Output, Stdio};
 
 fn run(input: &[u8]) -> Output {
@@ -17,8 +17,11 @@ fn run(input: &[u8]) -> Output {
         .stderr(Stdio::piped())
         .spawn();
     let mut trial = trial.expect("trial runs");
-    // Small enough for a pipe, whatever is answered meanwhile.
-    trial.stdin.take().expect("stdin is piped").write_all(input).expect("trial reads");
+    // A trial that has seen what is malformed may end before the longest input is all in its pipe.
+    match trial.stdin.take().expect("stdin is piped").write_all(input) {
+        Err(ended) if ended.kind() == ErrorKind::BrokenPipe => {}
+        written => written.expect("trial reads"),
+    }
     trial.wait_with_output().expect("trial ends")
 }
 
