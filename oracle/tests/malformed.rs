@@ -6,10 +6,11 @@ use oracle::effects::sampler::VoicePhase;
 use oracle::leg::{Leg, Sizes, LEG_BYTES};
 use oracle::trial_file::{Head, Step, Trial};
 use std::env;
-use std::io::{ErrorKind, Write};
+use std::io::{Error, ErrorKind, Write};
 use std::process::{Command, Output, Stdio};
 
-fn run(input: &[u8]) -> Output {
+/// What a trial answers, and whether it read all of the input.
+fn started(input: &[u8]) -> (Output, Result<(), Error>) {
     let ours = || env!("CARGO_BIN_EXE_trial").to_string();
     let trial = Command::new(env::var("TRIAL").unwrap_or_else(|_| ours()))
         .stdin(Stdio::piped())
@@ -17,17 +18,31 @@ fn run(input: &[u8]) -> Output {
         .stderr(Stdio::piped())
         .spawn();
     let mut trial = trial.expect("trial runs");
-    // A trial that has seen what is malformed may end before the longest input is all in its pipe.
-    match trial.stdin.take().expect("stdin is piped").write_all(input) {
-        Err(ended) if ended.kind() == ErrorKind::BrokenPipe => {}
-        written => written.expect("trial reads"),
+    // Small enough for a pipe, or nearly, whatever is answered meanwhile.
+    let written = trial.stdin.take().expect("stdin is piped").write_all(input);
+    (trial.wait_with_output().expect("trial ends"), written)
+}
+
+fn run(input: &[u8]) -> Output {
+    let (output, written) = started(input);
+    written.expect("trial reads");
+    output
+}
+
+/// A trial that has seen what is malformed may end before the longest input is all in its pipe.
+fn run_malformed(input: &[u8]) -> Output {
+    match started(input) {
+        (output, Err(ended)) if ended.kind() == ErrorKind::BrokenPipe => output,
+        (output, written) => {
+            written.expect("trial reads");
+            output
+        }
     }
-    trial.wait_with_output().expect("trial ends")
 }
 
 /// So many answered bytes, then this line and, of ours, status 1.
 fn assert_malformed(input: &[u8], answered: usize, words: &str) {
-    let output = run(input);
+    let output = run_malformed(input);
     assert_eq!(String::from_utf8(output.stderr).unwrap(), format!("{words}\n"));
     let status = if env::var("TRIAL").is_ok() { 0 } else { 1 };
     assert_eq!(output.status.code(), Some(status), "{words}");
