@@ -1,11 +1,12 @@
 -- Floats read from the file, one more at a turn.
 -- The idea: as long as their bytes were held at the start nothing is read, so each is the float of its four bytes there. Assumes nothing.
 use Rattle.std.proofs.Common.{◌≡◌, ℕ, ◌+◌, ◌*◌, ◌%◌, ◌^◌, ◌<◌, ◌≤◌, List, length, take, set, refl, ap, ◌∙◌, inl, inr, le_refl, eq-or-lt_of_le, add-one, arith, take-suc-set}
+use Rattle.std.proofs.lemmas.Bool.{cases_lt}
 use lib.Seq.{take-set-le}
 use lib.Ieee.{Float}
 use Rattle.buffered.specs.declared.input.Input.{Input}
 use Rattle.buffered.specs.Input.{held, place, passed_by, Filled, float_at, floats_at}
-use Rattle.buffered.proofs.Refill.{none, either}
+use Rattle.buffered.proofs.Refill.{none}
 
 -- n bytes further on
 abbrev pub stepped : ℕ → Input → Input
@@ -39,9 +40,9 @@ module _ (s : List ℕ) (i : Input) (t u : List ℕ) (r q : Input) (xs : List Fl
       (g.0 ∙ (o.still l).0, g.1 ∙ e)
 
   pub short : held q < 4 → held i < 4 * (k + 1)
-  short h = elim (either (4 * (k + 1)) (held i)) [
-    | inl l ↦ let w : 4 ≤ held q = rw (stays l).1 (omega (arith, l)) in absurd (none h w)
-    | inr l ↦ l
+  short h = elim (cases_lt (held i) (4 * (k + 1))) [
+    | inl l ↦ l
+    | inr l ↦ let w : 4 ≤ held q = rw (stays l).1 (omega (arith, l)) in absurd (none h w)
   ]
 
   pub one_more : 4 ≤ held q → k < length xs → Upto s i u (passed_by 4 q) (set xs k (float_at u q.at)) (k + 1)

@@ -1,19 +1,13 @@
 -- What `filled` leaves, where it reads and where it does not.
 -- The idea: the bytes that are held are moved to the front, and the read leaves them there. Assumes nothing.
-use Rattle.std.proofs.Common.{◌≡◌, ℕ, ◌+◌, ◌-◌, ◌<◌, ◌≤◌, min, Bool, true, false, leb, ◌⊎◌, List, length, take, drop, sym, refl, ap, ◌∙◌, inl, inr, le_refl, zero-add, arith, length-drop, drop_of_length-le, take-take, leb-false, leb-true}
+use Rattle.std.proofs.Common.{◌≡◌, ℕ, ◌+◌, ◌-◌, ◌<◌, ◌≤◌, min, List, length, take, drop, sym, refl, ap, ◌∙◌, inl, inr, le_refl, zero-add, arith, length-drop, drop_of_length-le, take-take}
+use Rattle.std.proofs.lemmas.Bool.{cases_lt}
 use lib.Seq.{paste, take-paste}
 use Rattle.buffered.specs.declared.input.Input.{Input}
 use Rattle.buffered.specs.Input.{held, place, Filled}
 
 pub none : {a b : ℕ} → a < b → b ≤ a → ⊥
 none h l = omega arith
-
-pub either : (a b : ℕ) → (a ≤ b) ⊎ (b < a)
-either a b = go (leb a b) refl
-  where
-    go : (t : Bool) → leb a b ≡ t → (a ≤ b) ⊎ (b < a)
-    go true e = inl (leb-true a b e)
-    go false e = inr (leb-false a b e)
 
 pub as_it_is : (n : ℕ) (s : List ℕ) (i : Input) → n ≤ held i → Filled n s i s i
 as_it_is n s i h =
@@ -26,7 +20,7 @@ as_it_is n s i h =
 
 -- past the end there is nothing
 clamped : (s : List ℕ) (at : ℕ) → length s ≡ 65536 → drop (min at 65536) s ≡ drop at s
-clamped s at e = elim (either at 65536) [
+clamped s at e = elim (cases_lt at 65536) [
   | inl h ↦ let m : min at 65536 ≡ at = omega arith in ap (λ (k : ℕ). drop k s) m
   | inr h ↦
       let m : min at 65536 ≡ 65536 = omega arith in

@@ -1,9 +1,8 @@
 -- Standard input through a buffer of 65,536 bytes: which of its bytes are held, and where they stand in the file. Definitions only.
-use Rattle.std.specs.Prelude.{◌≡◌, ℕ, zero, suc, ◌+◌, ◌-◌, ◌*◌, ◌%◌, ◌^◌, ◌<◌, ◌≤◌, min, true, cond, List, [], ◌∷◌, ◌++◌, take, drop, from_bits, nat_le, Float}
+use Rattle.std.specs.Prelude.{◌≡◌, ℕ, zero, suc, ◌+◌, ◌-◌, ◌*◌, ◌%◌, ◌^◌, ◌<◌, ◌≤◌, min, Bool, true, cond, List, [], ◌∷◌, ◌++◌, take, drop, from_bits, nat_le, Float}
 use Rattle.std.specs.Float.{binary32}
 use Rattle.sampler_event.specs.Record.{little}
 use Rattle.buffered.specs.declared.input.Input.{Input}
-use Rattle.buffered.specs.declared.input.Floats.{Floats}
 
 -- how many bytes are held, from the next one on
 abbrev pub held : Input → ℕ
@@ -51,9 +50,9 @@ abbrev pub floats_at : List ℕ → ℕ → ℕ → List Float
 floats_at s at zero = []
 floats_at s at (suc n) = floats_at s at n ++ (float_at s (at + 4 * n) ∷ [])
 
--- What reading n floats leaves: `s` and `i` as above, `a` is whether all were there and where reading stands, `xs` the entries.
-pub record Read (n : ℕ) (s : List ℕ) (i : Input) (a : Floats) (xs : List Float) : Type 0 where
+-- What reading n floats leaves: `s` and `i` as above, `whole` is whether all were there, `r` where reading stands, `xs` the entries.
+pub record Read (n : ℕ) (s : List ℕ) (i : Input) (whole : Bool) (r : Input) (xs : List Float) : Type 0 where
   -- the place in the file, where all were there
-  pub then_place : a.whole ≡ true → place a.input ≡ (place i + 4 * n) % 2 ^ 64
+  pub then_place : whole ≡ true → place r ≡ (place i + 4 * n) % 2 ^ 64
   -- those whose bytes were held already are their floats
   pub held_floats : (k : ℕ) → k ≤ n → 4 * k ≤ held i → take k xs ≡ floats_at s i.at k

@@ -1,23 +1,42 @@
--- `insert` along a list, as the search for the place follows it, and what it keeps: the length, the order, and what holds of each event.
+-- Where `insert` puts an event, and what it keeps: the length, the order, and what holds of each event.
 -- The idea: at each event either the search ends and the rest is as it was, or the event is passed and the same holds of the rest. Assumes nothing.
 use Prim.Native.Nat.{ℕ, suc, ◌+◌, ◌≤◌, ◌<◌}
 use mathlib.Core.Path.{◌≡◌, refl, ap, sym, ◌∙◌}
-use mathlib.Core.Bool.{Bool, true, false, ◌&&◌, cond, and_assoc, and_comm, and-eq-true_iff}
+use mathlib.Core.Bool.{Bool, true, false, ◌&&◌, not, cond, and_assoc, and_comm, and-eq-true_iff}
 use mathlib.Core.List.{List, [], ◌∷◌, ◌++◌}
 use native.Mathlib.Omega.{arith}
-use native.Mathlib.Numerals.{add-one}
-use borrow.Author.Tests.{ltb-true, ltb-false, le-leb}
-use lib.IntN.{ℤ, pos, negsuc}
-use lib.ListN.{length, take, drop, get_or, drop_of_length-le}
+use native.Mathlib.Numerals.{add-one, one-add}
+use borrow.Author.Tests.{ltb-false}
+use lib.IntN.{ℤ}
+use lib.ListN.{length, take, drop, get_or}
 use lib.Seq.{get_or-take, take-suc, length-take-le, append_snoc}
 use lib.Signed.{lt_z, le_z}
+use Rattle.std.specs.Prelude.{Some, None, unwrap_or, ltb}
+use Rattle.std.specs.List.{position, position_or_len}
+use Rattle.std.proofs.lemmas.Int.{ints}
+use Rattle.std.proofs.lemmas.List.Sums.{prefix_len-le-length}
 use Rattle.sampler_event.specs.Events.{is_cancel_all}
 use Rattle.sampler_event.specs.declared.Event.{Event}
 use Rattle.event_processor.specs.Queue.{insert, enter, in_order_from, in_order, each}
 use Rattle.event_processor.proofs.Moves.{rest_at}
 
--- ---- the place, among the first n of an array
+-- ---- the place: before the first that is later, or at the end
 
+abbrev pub later : Event → Event → Bool
+later e other = lt_z e.time.bits other.time.bits
+
+pub insert_at : (e : Event) (l : List Event) → insert e l ≡ take (position_or_len (later e) l) l ++ e ∷ drop (position_or_len (later e) l) l
+insert_at e [] = refl
+insert_at e (x ∷ xs) = turn (lt_z e.time.bits x.time.bits) (insert_at e xs)
+  where
+    k : ℕ
+    k = position_or_len (later e) xs
+
+    turn : (b : Bool) → insert e xs ≡ take k xs ++ e ∷ drop k xs → cond b (e ∷ x ∷ xs) (x ∷ insert e xs) ≡ take (cond (not b) (1 + k) 0) (x ∷ xs) ++ e ∷ drop (cond (not b) (1 + k) 0) (x ∷ xs)
+    turn true n = refl
+    turn false n = rw (one-add k) (ap (λ (l : List Event). x ∷ l) n)
+
+-- step by step, among the first n of an array
 module _ (e : Event) (es : List Event) (n i : ℕ) (m : n ≤ length es) where
   -- an event that is not later is passed
   pub insert_past : (z : Event) → i < n → lt_z e.time.bits (get_or es i z).time.bits ≡ false
@@ -30,11 +49,13 @@ module _ (e : Event) (es : List Event) (n i : ℕ) (m : n ≤ length es) where
   pub insert_found : (z : Event) → i < n → lt_z e.time.bits (get_or es i z).time.bits ≡ true → insert e (drop i (take n es)) ≡ e ∷ drop i (take n es)
   insert_found z h t = rw (rest_at es n i z h m, t) refl
 
-  -- or at the end
-  pub insert_last : n ≤ i → insert e (drop i (take n es)) ≡ e ∷ drop i (take n es)
-  insert_last h =
-      let l = length-take-le n es m in
-      rw (drop_of_length-le (take n es) {i = i} (omega arith)) refl
+-- as the search answers it
+pub first_or : {X : Type 0} (p : X → Bool) (xs : List X) (n : ℕ) → length xs ≡ n → unwrap_or (position p xs) n ≡ position_or_len p xs
+first_or p xs n l = go (ltb (position_or_len p xs) (length xs)) (ltb-false (position_or_len p xs) (length xs))
+  where
+    go : (b : Bool) → (b ≡ false → length xs ≤ position_or_len p xs) → unwrap_or (cond b (Some (position_or_len p xs)) None) n ≡ position_or_len p xs
+    go true h = refl
+    go false h = let m = h refl in let k = prefix_len-le-length (λ x. not (p x)) xs in omega arith
 
 -- ---- what it keeps
 
@@ -60,16 +81,10 @@ insert_each P e (x ∷ xs) = turn (lt_z e.time.bits x.time.bits) (insert_each P 
         ∙ and_assoc (P e) (P x) (each P xs)
 
 before : (a b : ℤ) → lt_z a b ≡ true → le_z a b ≡ true
-before (pos a) (pos b) t = let h = ltb-true a b t in le-leb a b (omega arith)
-before (pos a) (negsuc b) t = t
-before (negsuc a) (pos b) t = refl
-before (negsuc a) (negsuc b) t = let h = ltb-true b a t in le-leb b a (omega arith)
+before a b t = grind (arith, ints)
 
 not_before : (a b : ℤ) → lt_z a b ≡ false → le_z b a ≡ true
-not_before (pos a) (pos b) t = le-leb b a (ltb-false a b t)
-not_before (pos a) (negsuc b) t = refl
-not_before (negsuc a) (pos b) t = sym t
-not_before (negsuc a) (negsuc b) t = le-leb a b (ltb-false b a t)
+not_before a b t = grind (arith, ints)
 
 pub insert_from : (t : ℤ) (e : Event) (l : List Event) → le_z t e.time.bits ≡ true → in_order_from t l ≡ true → in_order_from t (insert e l) ≡ true
 insert_from t e [] k h = rw k refl

@@ -8,10 +8,8 @@ use lib.IntN.{ℤ}
 use lib.ListN.{length}
 use Rattle.sampler_event.specs.declared.Event.{Event}
 use Rattle.event_processor.specs.declared.Queue.{Queue}
-use Rattle.event_processor.specs.declared.QueueAnswer.{QueueAnswer}
-use Rattle.event_processor.specs.declared.First.{First}
-use Rattle.event_processor.specs.declared.First.TheVariants.{Nothing, Due}
-use Rattle.event_processor.specs.Queue.{first_before, in_order, each, pending, queue_full, received, taken_before}
+use Rattle.std.specs.Prelude.{Option, None, Some}
+use Rattle.event_processor.specs.Queue.{QueueAnswer, first_before, in_order, each, pending, queue_full, received, taken_before}
 use Rattle.event_processor.proofs.Insert.{enter_order, enter_each}
 use Rattle.event_processor.proofs.Front.{rest_order, rest_each, taken_none, taken_due}
 use Rattle.event_processor.proofs.Pending.{received_cases, received_full, pending_received, pending_taken}
@@ -42,20 +40,20 @@ module _ (end : ℤ) (q : Queue) where
   pub taken_order : q.count ≤ length q.events → in_order (pending q) ≡ true → in_order (pending (taken_before end q).queue) ≡ true
   taken_order k h = go (first_before end (pending q)) refl
     where
-      go : (f : First) → first_before end (pending q) ≡ f → in_order (pending (taken_before end q).queue) ≡ true
-      go Nothing t = rw (taken_none end q t) h
-      go (Due e) t = rw (pending_taken end q e k t) (rest_order (pending q) h)
+      go : (f : Option Event) → first_before end (pending q) ≡ f → in_order (pending (taken_before end q).queue) ≡ true
+      go None t = rw (taken_none end q t) h
+      go (Some e) t = rw (pending_taken end q e k t) (rest_order (pending q) h)
 
   pub taken_each : (P : Event → Bool) → q.count ≤ length q.events → each P (pending q) ≡ true → each P (pending (taken_before end q).queue) ≡ true
   taken_each P k h = go (first_before end (pending q)) refl
     where
-      go : (f : First) → first_before end (pending q) ≡ f → each P (pending (taken_before end q).queue) ≡ true
-      go Nothing t = rw (taken_none end q t) h
-      go (Due e) t = rw (pending_taken end q e k t) (rest_each P (pending q) h)
+      go : (f : Option Event) → first_before end (pending q) ≡ f → each P (pending (taken_before end q).queue) ≡ true
+      go None t = rw (taken_none end q t) h
+      go (Some e) t = rw (pending_taken end q e k t) (rest_each P (pending q) h)
 
   pub taken_count : (taken_before end q).queue.count ≤ q.count
   taken_count = go (first_before end (pending q)) refl
     where
-      go : (f : First) → first_before end (pending q) ≡ f → (taken_before end q).queue.count ≤ q.count
-      go Nothing t = rw (taken_none end q t) (omega arith)
-      go (Due e) t = rw (taken_due end q e t) (omega arith)
+      go : (f : Option Event) → first_before end (pending q) ≡ f → (taken_before end q).queue.count ≤ q.count
+      go None t = rw (taken_none end q t) (omega arith)
+      go (Some e) t = rw (taken_due end q e t) (omega arith)

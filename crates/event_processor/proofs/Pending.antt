@@ -14,9 +14,8 @@ use lib.Seq.{take_all, take_at, take-append-le, length-take-le}
 use Rattle.sampler_event.specs.Events.{blank_event, is_cancel_all}
 use Rattle.sampler_event.specs.declared.Event.{Event}
 use Rattle.event_processor.specs.declared.Queue.{Queue}
-use Rattle.event_processor.specs.declared.QueueAnswer.{QueueAnswer}
-use Rattle.event_processor.specs.declared.First.TheVariants.{Due}
-use Rattle.event_processor.specs.Queue.{insert, enter, first_before, pending, empty_queue, entered, without, queue_full, received, taken_before}
+use Rattle.std.specs.Prelude.{Some}
+use Rattle.event_processor.specs.Queue.{QueueAnswer, insert, enter, first_before, pending, empty_queue, entered, without, queue_full, received, taken_before}
 use Rattle.event_processor.proofs.Insert.{insert_length}
 use Rattle.event_processor.proofs.Front.{taken_due}
 
@@ -84,5 +83,5 @@ pending_without q h = go q.count q.events h
         rw k (take-append-le n es (blank_event ∷ []) (le_of_suc-le-suc h))
 
 -- the first event where it is due leaves the rest
-pub pending_taken : (end : ℤ) (q : Queue) (e : Event) → q.count ≤ length q.events → first_before end (pending q) ≡ Due e → pending (taken_before end q).queue ≡ drop 1 (pending q)
+pub pending_taken : (end : ℤ) (q : Queue) (e : Event) → q.count ≤ length q.events → first_before end (pending q) ≡ Some e → pending (taken_before end q).queue ≡ drop 1 (pending q)
 pending_taken end q e h f = rw (taken_due end q e f) (pending_without q h)

@@ -14,10 +14,8 @@ use lib.Seq.{take_at, drop-append-add}
 use Rattle.sampler_event.specs.Events.{blank_event, is_cancel_all}
 use Rattle.sampler_event.specs.declared.Event.{Event}
 use Rattle.event_processor.specs.declared.Queue.{Queue}
-use Rattle.event_processor.specs.declared.QueueAnswer.{QueueAnswer}
-use Rattle.event_processor.specs.declared.First.{First}
-use Rattle.event_processor.specs.declared.First.TheVariants.{Nothing, Due}
-use Rattle.event_processor.specs.Queue.{insert, enter, first_before, pending, empty_queue, entered, without, queue_full, received, taken_before}
+use Rattle.std.specs.Prelude.{Option, None, Some}
+use Rattle.event_processor.specs.Queue.{QueueAnswer, insert, enter, first_before, pending, empty_queue, entered, without, queue_full, received, taken_before}
 use Rattle.event_processor.proofs.Insert.{insert_length}
 use Rattle.event_processor.proofs.Front.{taken_none, taken_due}
 use Rattle.event_processor.proofs.Pending.{received_cases}
@@ -40,9 +38,9 @@ without_places q h = let d = length-drop 1 q.events in length-append (drop 1 q.e
 pub taken_places : (end : ℤ) (q : Queue) → length q.events ≡ 16 → length (taken_before end q).queue.events ≡ 16
 taken_places end q h = go (first_before end (pending q)) refl
   where
-    go : (f : First) → first_before end (pending q) ≡ f → length (taken_before end q).queue.events ≡ 16
-    go Nothing t = rw (taken_none end q t) h
-    go (Due e) t = rw (taken_due end q e t) (without_places q h)
+    go : (f : Option Event) → first_before end (pending q) ≡ f → length (taken_before end q).queue.events ≡ 16
+    go None t = rw (taken_none end q t) h
+    go (Some e) t = rw (taken_due end q e t) (without_places q h)
 
 -- ---- blank
 
@@ -78,5 +76,5 @@ queue_of_received e l h = rw h (go (is_cancel_all e.kind) h)
     go true g = queue_of_entered e [] (lit≤ tt)
     go false g = queue_of_entered e l (leb-false 16 (length l) (sym (and-true (leb 16 (length l))) ∙ g))
 
-pub queue_of_taken : (end : ℤ) (e : Event) (l : List Event) → length l < 16 → first_before end (e ∷ l) ≡ Due e → (taken_before end (queue_of (e ∷ l))).queue ≡ queue_of l
+pub queue_of_taken : (end : ℤ) (e : Event) (l : List Event) → length l < 16 → first_before end (e ∷ l) ≡ Some e → (taken_before end (queue_of (e ∷ l))).queue ≡ queue_of l
 queue_of_taken end e l h f = rw (taken_due end (queue_of (e ∷ l)) e f) (queue_of_without e l h)

@@ -1,12 +1,11 @@
 -- "Commands and their queue" of document 01: the events that wait, as a list, what a command and a block do to it, and what each call answers. Definitions only.
-use Rattle.std.specs.Prelude.{◌+◌, ◌-◌, Bool, true, false, ◌&&◌, not, cond, List, [], ◌∷◌, ◌++◌, leb, ℤ, take, drop, replicate}
+use Rattle.std.specs.Prelude.{ℕ, ◌+◌, ◌-◌, Bool, true, false, ◌&&◌, not, cond, List, [], ◌∷◌, ◌++◌, leb, ℤ, take, drop, replicate, Option, None, Some, Result, Ok, Err}
 use Rattle.std.specs.Int.Signed.{lt_z, le_z}
+use Rattle.laws.specs.declared.Refused.{Refused}
+use Rattle.laws.specs.Rules.{number_of}
 use Rattle.sampler_event.specs.Events.{blank_event, is_cancel_all}
 use Rattle.sampler_event.specs.declared.Event.{Event}
 use Rattle.event_processor.specs.declared.Queue.{Queue}
-use Rattle.event_processor.specs.declared.QueueAnswer.{QueueAnswer}
-use Rattle.event_processor.specs.declared.First.{First}
-use Rattle.event_processor.specs.declared.First.TheVariants.{Nothing, Due}
 use Rattle.event_processor.specs.declared.Taken.{Taken}
 
 -- ---- the events that wait, as a list
@@ -21,9 +20,9 @@ abbrev pub enter : Event → List Event → List Event
 enter e l = insert e (cond (is_cancel_all e.kind) [] l)
 
 -- "the first event with time below that end"
-abbrev pub first_before : ℤ → List Event → First
-first_before end [] = Nothing
-first_before end (e ∷ es) = cond (lt_z e.time.bits end) (Due e) Nothing
+abbrev pub first_before : ℤ → List Event → Option Event
+first_before end [] = None
+first_before end (e ∷ es) = cond (lt_z e.time.bits end) (Some e) None
 
 -- "in order", and none earlier than t
 abbrev pub in_order_from : ℤ → List Event → Bool
@@ -60,6 +59,16 @@ without q = record { events = drop 1 q.events ++ blank_event ∷ []; count = q.c
 
 -- ---- the calls
 
+-- a queue, and 0, or the number of a refusal and the queue as it was given
+pub record QueueAnswer : Type 0 where
+  pub number : ℕ
+  pub queue : Queue
+
+-- the number and the queue of each case of what the code answers
+abbrev pub told : Result Queue (Refused Queue) → QueueAnswer
+told (Ok q) = record { number = 0; queue = q }
+told (Err r) = record { number = number_of r.refusal; queue = r.kept }
+
 -- 9: "16 events pending and the new one isn't CancelAll"
 abbrev pub queue_full : Event → Queue → Bool
 queue_full e q = leb 16 q.count && not (is_cancel_all e.kind)
@@ -71,14 +80,14 @@ received e q =
     (record { number = 0; queue = entered e (cond (is_cancel_all e.kind) empty_queue q) })
 
 -- an event is due
-abbrev pub is_due : First → Bool
-is_due Nothing = false
-is_due (Due e) = true
+abbrev pub is_due : Option Event → Bool
+is_due None = false
+is_due (Some e) = true
 
 -- what is due "is taken"
-abbrev pub leave : First → Queue → Queue
-leave Nothing q = q
-leave (Due e) q = without q
+abbrev pub leave : Option Event → Queue → Queue
+leave None q = q
+leave (Some e) q = without q
 
 -- "the first event with time below that end is taken"
 unfoldable pub taken_before : ℤ → Queue → Taken

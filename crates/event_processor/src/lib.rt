@@ -5,92 +5,50 @@
 
 ghost use Rattle.std.specs.Prelude.{◌≡◌, [], ◌∷◌, ◌++◌, ◌+◌, ◌≤◌, ◌<◌, take, drop};
 ghost use Rattle.sampler_event.specs.Events.{blank_event};
-ghost use Rattle.event_processor.specs.Queue.{insert, first_before, pending, empty_queue, entered, received, is_due, taken_before};
+ghost use Rattle.event_processor.specs.Queue.{insert, first_before, pending, empty_queue, entered, told, received, is_due, taken_before};
 
+use laws::{Refusal, Refused};
 use sampler_event::Event;
 use timestamp::Timestamp;
 
-// The first `count` places hold the events that wait, sorted by time, equal times by submission.
-#[derive(Clone, Copy)]
+// The first `count` places hold the events that wait, sorted by time, equal times by submission: document 01's
+// "16-place array with a count", with no heap.
+#[derive(Clone, Copy, Debug, PartialEq, Eq)]
 pub struct Queue {
     pub events: [Event; 16],
     pub count: usize,
 }
 
-// A queue, and 0, or the number of a refusal and the queue as it was given.
-#[derive(Clone, Copy)]
-pub struct QueueAnswer {
-    pub number: u8,
-    pub queue: Queue,
-}
-
-#[derive(Clone, Copy)]
-pub enum First {
-    Nothing,
-    Due(Event),
-}
-
 // The first event where it is due, and the queue without it.
-#[derive(Clone, Copy)]
+#[derive(Clone, Copy, Debug, PartialEq, Eq)]
 pub struct Taken {
-    pub first: First,
+    pub first: Option<Event>,
     pub queue: Queue,
 }
 
-// ---- the places
+// ---- the places, each with room for one: a clause, since a damaged leg's count is any, and `receive` has tested it
 
 // The array with the event at k: those from k on move up by one, the last of them over what stood
 // at n.
-fn moved_up(events: [Event; 16], k: usize, n: usize, event: Event) -> [Event; 16]
+#[tactic(auto, using(crate::proofs::Moves::moved_up))]
+fn moved_up(mut events: [Event; 16], k: usize, n: usize, event: Event) -> [Event; 16]
     requires k_bound { k ≤ n }
     requires room { n < 16 }
     ensures { result ≡ take k events ++ event ∷ drop k (take n events) ++ drop (n + 1) events }
 {
-    let mut out = events;
-    let mut i = n;
-    while k < i {
-        out[i] = events[i - 1];
-        i -= 1;
-    }
-    out[k] = event;
-    out
+    events.copy_within(k..n, k + 1);
+    events[k] = event;
+    events
 }
 
-// The first n places with what stood one place on.
-fn lowered(events: [Event; 16], n: usize) -> [Event; 16]
-    requires { n < 16 }
-    ensures { result ≡ take n (drop 1 events) ++ drop n events }
-{
-    let mut out = events;
-    let mut i: usize = 0;
-    while i < n {
-        out[i] = events[i + 1];
-        i += 1;
-    }
-    out
-}
-
-// The array without its first, the rest moved down, a blank at the end. In two loops that meet at n, so that
-// the compiler can count neither: it would unroll one loop of 15, and then copy every queue event by event.
-fn moved_down(events: [Event; 16], n: usize) -> [Event; 16]
-    requires { n < 16 }
+// The array without its first, the rest moved down, a blank at the end.
+#[tactic(auto, using(crate::proofs::Moves::moved_down))]
+fn moved_down(mut events: [Event; 16]) -> [Event; 16]
     ensures { result ≡ drop 1 events ++ blank_event ∷ [] }
 {
-    let mut out = lowered(events, n);
-    let mut i = n;
-    while i < 15 {
-        out[i] = events[i + 1];
-        i += 1;
-    }
-    out[15] = Event::blank();
-    out
-}
-
-// Where the two loops meet: at n, or at 15.
-fn split_at(n: usize) -> usize
-    ensures { result < 16 }
-{
-    if n < 16 { n } else { 15 }
+    events.copy_within(1.., 0);
+    events[15] = Event::blank();
+    events
 }
 
 // ---- event_processor.rs
@@ -99,9 +57,8 @@ impl Queue {
     pub fn empty() -> Queue
         ensures { result ≡ empty_queue }
     {
-        let blank = Event::blank();
         Queue {
-            events: [blank; 16],
+            events: [Event::blank(); 16],
             count: 0,
         }
     }
@@ -109,18 +66,13 @@ impl Queue {
     // How many of the events that wait come before this one: those at the front that are not later.
     fn place(self, event: Event) -> usize
         requires { self.count < 16 }
-        ensures { (result ≤ self.count) × (insert event (pending self) ≡ take result (pending self) ++ event ∷ drop result (pending self)) }
+        ensures bound { result ≤ self.count }
+        ensures value { insert event (pending self) ≡ take result (pending self) ++ event ∷ drop result (pending self) }
     {
-        let n = self.count;
-        let mut i: usize = 0;
-        while i < n {
-            let other = self.events[i];
-            if event.time.is_before(other.time) {
-                return i;
-            }
-            i += 1;
-        }
-        i
+        self.events[..self.count]
+            .iter()
+            .position(|other| event.time.is_before(other.time))
+            .unwrap_or(self.count)
     }
 
     // The queue with this one in its place.
@@ -129,73 +81,51 @@ impl Queue {
         ensures { result ≡ entered event self }
     {
         let k = self.place(event);
-        let n = self.count;
-        let events = self.events;
-        let moved = moved_up(events, k, n, event);
         Queue {
-            events: moved,
-            count: n + 1,
+            events: moved_up(self.events, k, self.count, event),
+            count: self.count + 1,
         }
     }
 
-    pub fn receive(self, event: Event) -> QueueAnswer
-        ensures { result ≡ received event self }
+    #[tactic(auto, unfolding(crate::specs::Queue::received))]
+    pub fn receive(self, event: Event) -> Result<Queue, Refused<Queue>>
+        ensures { told result ≡ received event self }
     {
         if event.should_clear_queue() {
-            let cleared = Queue::empty();
-            let queue = cleared.enter(event);
-            return QueueAnswer { number: 0, queue };
+            return Ok(Queue::empty().enter(event));
         }
-        let n = self.count;
-        if 16 <= n {
-            return QueueAnswer {
-                number: 9,
-                queue: self,
-            };
+        if 16 <= self.count {
+            return Err(Refused {
+                refusal: Refusal::QueueFull,
+                kept: self,
+            });
         }
-        let queue = self.enter(event);
-        QueueAnswer { number: 0, queue }
+        Ok(self.enter(event))
     }
 
     // Whether there is an event for next_event_before to take, with no queue copied.
     pub fn is_due(self, end: Timestamp) -> bool
         ensures { result ≡ is_due (first_before end.bits (pending self)) }
     {
-        let n = self.count;
-        if n == 0 {
-            return false;
-        }
-        let event = self.events[0];
-        event.time.is_before(end)
+        self.count > 0 && self.events[0].time.is_before(end)
     }
 
+    #[tactic(auto, unfolding(crate::specs::Queue::taken_before))]
     pub fn next_event_before(self, end: Timestamp) -> Taken
         ensures { result ≡ taken_before end.bits self }
     {
-        let n = self.count;
-        if n == 0 {
+        if !self.is_due(end) {
             return Taken {
-                first: First::Nothing,
+                first: None,
                 queue: self,
             };
         }
-        let event = self.events[0];
-        let time = event.time;
-        if time.is_before(end) {
-            let events = self.events;
-            let moved = moved_down(events, split_at(n - 1));
-            let queue = Queue {
-                events: moved,
-                count: n - 1,
-            };
-            return Taken {
-                first: First::Due(event),
-                queue,
-            };
-        }
         Taken {
-            first: First::Nothing,
-            queue: self,
+            first: Some(self.events[0]),
+            queue: Queue {
+                events: moved_down(self.events),
+                count: self.count - 1,
+            },
         }
     }
 }

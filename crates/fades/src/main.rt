@@ -3,20 +3,29 @@
 // and its pieces, the bits before, in and after the fade, and a sum of all bits.
 #![tactic(auto)]
 
-use sampler_processor::{Leg, LegAnswer};
-use timestamp::Timestamp;
+use laws::Refused;
+use sampler_player::Lent;
+use sampler_processor::{Leg, Rendered};
+use timestamp::{Rate, Timestamp};
 
+// What can't be written is lost. The kit's `io` writes: std's would have us trust `errno` too.
 const STDOUT: i32 = 1;
 
-// A call that is refused is one line more.
-fn taken(answer: LegAnswer) -> Leg {
-    if answer.number != 0 {
-        io::write_all(STDOUT, b"refused\n");
+const RATE: Rate = Rate { hertz: 48000 };
+
+// A call that is refused is one line more, and the leg goes on as it was. This and `told` are much as in the program
+// `frames`: a crate for the two would be longer than they are.
+fn taken(answer: Result<Leg, Refused<Leg>>) -> Leg {
+    match answer {
+        Ok(leg) => leg,
+        Err(refused) => {
+            io::write_all(STDOUT, b"refused\n");
+            refused.kept
+        }
     }
-    answer.leg
 }
 
-// A command at a time, with a position.
+// A command at a time, with a position. The kind is its number, as document 01's record has it.
 fn told(leg: Leg, kind: u8, time: Timestamp, position: Timestamp) -> Leg {
     let mut bytes = [0u8; 26];
     bytes[0] = kind;
@@ -27,11 +36,18 @@ fn told(leg: Leg, kind: u8, time: Timestamp, position: Timestamp) -> Leg {
 
 // Frames that all differ, from .5 up.
 fn fill(rec: &mut [f32]) {
-    let mut i: usize = 0;
-    while i < rec.len() {
-        rec[i] = words::float(0x3f00_0000 + 97 * (i % 65536) as u32);
-        i += 1;
+    for (i, x) in rec.iter_mut().enumerate() {
+        *x = words::float(0x3f00_0000 + 97 * (i % 65536) as u32);
     }
+}
+
+// Every bit of every sample counts, and its place.
+fn sum_of(samples: &[f32]) -> u64 {
+    let mut sum: u64 = 0;
+    for x in samples {
+        sum = (sum * 31 + u64::from(words::float_bits(*x))) % 4294967291;
+    }
+    sum
 }
 
 fn print(n: u64, width: usize) {
@@ -39,65 +55,57 @@ fn print(n: u64, width: usize) {
     io::write_all(STDOUT, b"\n");
 }
 
-fn print_chosen(samples: &[f32], chosen: &[usize]) {
-    let mut i: usize = 0;
-    while i < chosen.len() {
-        let at = chosen[i];
-        if at < samples.len() {
-            print(words::float_bits(samples[at]) as u64, 8);
-        }
-        i += 1;
+// The number and the pieces of an answer, and the leg that goes on.
+fn answered(answer: Result<Rendered, Refused<Leg>>) -> (u8, usize, Leg) {
+    match answer {
+        Ok(rendered) => (0, rendered.pieces, rendered.leg),
+        Err(refused) => (u8::from(refused.refusal), 0, refused.kept),
     }
-}
-
-// Every bit of every sample counts, and its place.
-fn sum_of(samples: &[f32]) -> u64 {
-    let mut sum: u64 = 0;
-    let mut i: usize = 0;
-    while i < samples.len() {
-        let bits = words::float_bits(samples[i]) as u64;
-        sum = (sum * 31 + bits) % 4294967291;
-        i += 1;
-    }
-    sum
 }
 
 // One block over zeros.
 fn show(leg: Leg, rec: &[f32], table: &[f32], start: Timestamp) -> Leg {
     let mut out = [0.0f32; 4096];
-    let answer = leg.render(rec, table, 1, 4096, &mut out, start);
-    print(answer.number as u64, 2);
-    print(answer.pieces as u64, 2);
-    let chosen = [104usize, 105, 106, 1305, 2503, 2504, 2505];
-    print_chosen(&out, &chosen);
+    let lent = Lent {
+        recording: rec,
+        table,
+        channels: 1,
+        block: 4096,
+    };
+    let (number, pieces, next) = answered(leg.render(lent, &mut out, start));
+    print(u64::from(number), 2);
+    print(pieces as u64, 2);
+    for at in [104usize, 105, 106, 1305, 2503, 2504, 2505] {
+        print(u64::from(words::float_bits(out[at])), 8);
+    }
     print(sum_of(&out), 8);
-    answer.leg
+    next
 }
 
 // A fresh leg with the three commands.
 fn ready() -> Leg {
     let leg = taken(Leg::make(48000, 1, 16000, 2400));
-    let first = timestamp::time_of(1000, 48000);
-    let started = told(leg, 1, timestamp::time_of(105, 48000), first);
-    let second = timestamp::time_of(6000, 48000);
-    let crossed = told(started, 1, timestamp::time_of(4201, 48000), second);
+    let first = timestamp::time_of(1000, RATE);
+    let started = told(leg, 1, timestamp::time_of(105, RATE), first);
+    let second = timestamp::time_of(6000, RATE);
+    let crossed = told(started, 1, timestamp::time_of(4201, RATE), second);
     told(
         crossed,
         3,
-        timestamp::time_of(8297, 48000),
+        timestamp::time_of(8297, RATE),
         Timestamp::zero(),
     )
 }
 
-fn play(leg: Leg, rec: &[f32], table: &[f32]) {
-    let faded_in = show(leg, rec, table, Timestamp::zero());
-    let across = show(faded_in, rec, table, timestamp::time_of(4096, 48000));
-    show(across, rec, table, timestamp::time_of(8192, 48000));
+fn play(rec: &[f32], table: &[f32]) {
+    let faded_in = show(ready(), rec, table, Timestamp::zero());
+    let across = show(faded_in, rec, table, timestamp::time_of(4096, RATE));
+    show(across, rec, table, timestamp::time_of(8192, RATE));
 }
 
 fn main() {
     let table = sampler_fade::table_48000();
     let mut rec = [0.0f32; 16000];
     fill(&mut rec);
-    play(ready(), &rec, &table);
+    play(&rec, &table);
 }

@@ -7,6 +7,7 @@ use mathlib.Core.List.{List, [], ◌∷◌, ◌++◌}
 use lib.IntN.{ℤ, pos, negsuc, ◌-ℤ◌}
 use lib.ListN.{replicate, take, drop, length}
 use lib.Ieee.{Float, binary32, of_bits, of_int, div, add, mul, neg, le, round, to_bits}
+use Rattle.std.specs.Prelude.{Some}
 use Rattle.timestamp.specs.Time.{time, time_of, seconds, frames_of, loop_end}
 use Rattle.sampler_voice.specs.declared.Phase.TheVariants.{Playing}
 use Rattle.sampler_fade.specs.Entry.{cleaned_fade, fade_at, one, none}
@@ -17,7 +18,6 @@ use Rattle.sampler_event.specs.Record.{fields, event_of, read_record}
 use Rattle.sampler_event.specs.Limits.{event_fault, admissible}
 use Rattle.sampler_event.specs.Command.{command_answer}
 use Rattle.event_processor.specs.Queue.{received}
-use Rattle.sampler_player.specs.declared.Active.TheVariants.{Number}
 use Rattle.sampler_player.specs.declared.Points.TheVariants.{Between}
 use Rattle.sampler_player.specs.declared.Setup.{Setup}
 use Rattle.sampler_player.specs.declared.Player.{Player}
@@ -150,7 +150,7 @@ looping from end =
       player =
           record {
             voices = record { position = 0; phase = Playing } ∷ silent ∷ [];
-            active = Number 0;
+            active = Some 0;
             points = Between (record { bits = from }) (record { bits = end });
             position = record { bits = pos 0 };
             start = record { bits = pos 0 };

@@ -6,14 +6,13 @@ use mathlib.Core.List.{List, [], ◌∷◌}
 use lib.Dec.{eqb}
 use lib.IntN.{ℤ, pos, negsuc}
 use lib.Ieee.{Float, binary32, to_bits}
+use Rattle.std.specs.Prelude.{Option, None, Some}
 use Rattle.sampler_voice.specs.declared.Phase.{Phase}
 use Rattle.sampler_voice.specs.declared.Phase.TheVariants.{Stopped, FadingIn, Playing, FadingOut}
 use Rattle.sampler_voice.specs.declared.Voice.{Voice}
 use Rattle.sampler_event.specs.declared.Event.{Event}
 use Rattle.sampler_event.specs.declared.Kind.{Kind}
 use Rattle.sampler_event.specs.declared.Kind.TheVariants.{Start, StartImmediate, Stop, EnableLoop, CancelLoop, CancelAll}
-use Rattle.sampler_player.specs.declared.Active.{Active}
-use Rattle.sampler_player.specs.declared.Active.TheVariants.{Neither, Number}
 use Rattle.sampler_player.specs.declared.Points.{Points}
 use Rattle.sampler_player.specs.declared.Points.TheVariants.{Absent, Between}
 use Rattle.sampler_player.specs.declared.Player.{Player}
@@ -34,9 +33,9 @@ abbrev pub of_voices : List Voice → List ℕ → List ℕ
 of_voices [] r = r
 of_voices (v ∷ vs) r = v.position ∷ of_phase v.phase (of_voices vs r)
 
-abbrev pub of_active : Active → List ℕ → List ℕ
-of_active Neither r = 0 ∷ r
-of_active (Number i) r = suc i ∷ r
+abbrev pub of_active : Option ℕ → List ℕ → List ℕ
+of_active None r = 0 ∷ r
+of_active (Some i) r = suc i ∷ r
 
 abbrev pub of_points : Points → List ℕ → List ℕ
 of_points Absent r = 0 ∷ r

@@ -6,7 +6,7 @@ pub mod Tests
 -- Rules: what it says that a call is not refused.
 pub mod Rules
 -- Round: what `round` does to a fraction, in whole numbers. Operations: the operations on floats by fractions. Fit: values that a format has. Whole: the nearest whole
--- number by one sum with 2 ^ 52. Error: several roundings.
+-- number, cast. Error: several roundings.
 pub mod Round
 pub mod Operations
 pub mod Fit
@@ -16,3 +16,5 @@ pub mod Error
 pub mod Bounds
 pub mod RangeTests
 pub mod NoNan
+-- Refusals: a number tells its refusal, and none is 0.
+pub mod Refusals

@@ -1,4 +1,4 @@
--- Laws of `leg_bytes`. Stores: parts stored one after the other. Bits: a signed number's bits. Roundtrip: reading what was written of a leg gives it back.
+-- Laws of `leg_bytes`. Stores: parts stored one after the other. Given: a value that is given only where a test holds. Roundtrip: reading what was written of a leg gives it back.
 pub mod Stores
-pub mod Bits
+pub mod Given
 pub mod Roundtrip

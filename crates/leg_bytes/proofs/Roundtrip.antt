@@ -1,6 +1,6 @@
 -- Reading what was written of a leg gives that leg back, where its numbers fit their fields.
 -- The idea: each field's bytes stand where they are read, and the number of a number's bytes is the number. Assumes nothing.
-use Rattle.std.proofs.Common.{◌≡◌, ℕ, zero, suc, ◌+◌, ◌-◌, ◌*◌, ◌%◌, ◌^◌, ◌<◌, ◌≤◌, Bool, true, false, ◌&&◌, eqb, ltb, List, [], ◌∷◌, ◌++◌, length, get_or, take, drop, ℤ, pos, negsuc, sym, refl, ap, ◌∙◌, inl, inr, le_refl, eq-or-lt_of_le, suc-ne-zero, arith, lit<, length-set, get_or-set_other, get_or-set_same, drop-drop, ext_get_or, drop_at, w64, SFits, ltb-false, le-ltb, lt-ltb, ne_eqb}
+use Rattle.std.proofs.Common.{◌≡◌, ℕ, zero, suc, ◌+◌, ◌-◌, ◌*◌, ◌%◌, ◌^◌, ◌<◌, ◌≤◌, Bool, true, false, ◌&&◌, eqb, ltb, List, [], ◌∷◌, ◌++◌, length, get_or, take, drop, ℤ, pos, negsuc, sym, refl, ap, ◌∙◌, inl, inr, le_refl, eq-or-lt_of_le, suc-ne-zero, arith, lit<, length-set, get_or-set_other, get_or-set_same, drop-drop, ext_get_or, drop_at, w64, SFits, ltb-false, le-ltb, lt-ltb, ne_eqb, Option, None, Some}
 use native.Mathlib.Nat.{suc_inj}
 use lib.Seq.{drop-append-le}
 use Rattle.timestamp.specs.declared.Timestamp.{Timestamp}
@@ -15,8 +15,6 @@ use Rattle.sampler_voice.specs.declared.Phase.{Phase}
 use Rattle.sampler_voice.specs.declared.Phase.TheVariants.{Stopped, FadingIn, Playing, FadingOut}
 use Rattle.sampler_voice.specs.declared.Voice.{Voice}
 use Rattle.sampler_voice.specs.Voices.{silent}
-use Rattle.sampler_player.specs.declared.Active.{Active}
-use Rattle.sampler_player.specs.declared.Active.TheVariants.{Neither, Number}
 use Rattle.sampler_player.specs.declared.Points.{Points}
 use Rattle.sampler_player.specs.declared.Points.TheVariants.{Absent, Between}
 use Rattle.sampler_player.specs.declared.Setup.{Setup}
@@ -24,13 +22,7 @@ use Rattle.sampler_processor.specs.declared.Leg.{Leg}
 use Rattle.words.specs.Digits.{bytes_of}
 use Rattle.words.proofs.Digits.{little_bytes}
 use Rattle.leg_bytes.specs.Write.{bits_of, i64, phase_number, fade_position, active_number, loop_number, loop_start, loop_end, zero_time, record_of, zero_record, place_of, record_bytes, places_bytes, leg_bytes}
-use Rattle.leg_bytes.specs.Read.{number_at, time_at, setup_at, phase_of, phase_good, voice_at, active_of, points_at, kind_of, kind_good, event_at, blank_at, place_at, events_at, places_good, player_at, queue_at, read_leg}
-use Rattle.leg_bytes.specs.declared.reading.VoiceRead.{VoiceRead}
-use Rattle.leg_bytes.specs.declared.reading.PointsRead.{PointsRead}
-use Rattle.leg_bytes.specs.declared.reading.PlayerRead.{PlayerRead}
-use Rattle.leg_bytes.specs.declared.reading.EventRead.{EventRead}
-use Rattle.leg_bytes.specs.declared.reading.QueueRead.{QueueRead}
-use Rattle.leg_bytes.specs.declared.reading.LegRead.{LegRead}
+use Rattle.leg_bytes.specs.Read.{number_at, time_at, setup_at, phase_of, phase_good, voice_at, active_of, points_at, kind_of, kind_good, event_at, blank_at, place_at, events_at, places_good, player_at, queue_at, read_leg, VoiceRead, PointsRead, PlayerRead, EventRead, QueueRead, LegRead}
 use Rattle.leg_bytes.specs.Fitting.{Time, VoiceFits, ActiveFits, Fitting}
 use Rattle.leg_bytes.proofs.Stores.{length_places}
 
@@ -78,16 +70,16 @@ phase_below (FadingIn i) = lit< tt
 phase_below Playing = lit< tt
 phase_below (FadingOut i) = lit< tt
 
-active_back : (a : Active) → ActiveFits a → active_of (active_number a) ≡ a
-active_back Neither h = refl
-active_back (Number i) h =
+active_back : (a : Option ℕ) → ActiveFits a → active_of (active_number a) ≡ a
+active_back None h = refl
+active_back (Some i) h =
     let e : (i + 1) % 2 ^ 64 ≡ i + 1 = omega arith in
     let m : i + 1 - 1 ≡ i = omega arith in
-    rw (e, ne_eqb (i + 1) 0 (λ z. omega (arith, z))) (ap Number m)
+    rw (e, ne_eqb (i + 1) 0 (λ z. omega (arith, z))) (ap Some m)
 
-active_below : (a : Active) → ActiveFits a → active_number a < 3
-active_below Neither h = lit< tt
-active_below (Number i) h = omega arith
+active_below : (a : Option ℕ) → ActiveFits a → active_number a < 3
+active_below None h = lit< tt
+active_below (Some i) h = omega arith
 
 -- ---- the places of the queue
 

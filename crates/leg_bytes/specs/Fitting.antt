@@ -1,12 +1,10 @@
 -- Which legs their bytes hold whole. Definitions only.
-use Rattle.std.specs.Prelude.{◌≡◌, ℕ, ◌^◌, ◌<◌, ◌≤◌, length, FitsSigned, slice_index_or}
+use Rattle.std.specs.Prelude.{◌≡◌, ℕ, ◌^◌, ◌<◌, ◌≤◌, length, FitsSigned, slice_index_or, Option, None, Some}
 use Rattle.std.specs.Int.{w64}
 use Rattle.timestamp.specs.declared.Timestamp.{Timestamp}
 use Rattle.sampler_event.specs.Events.{blank_event}
 use Rattle.sampler_voice.specs.declared.Voice.{Voice}
 use Rattle.sampler_voice.specs.Voices.{silent}
-use Rattle.sampler_player.specs.declared.Active.{Active}
-use Rattle.sampler_player.specs.declared.Active.TheVariants.{Neither, Number}
 use Rattle.sampler_processor.specs.declared.Leg.{Leg}
 use Rattle.leg_bytes.specs.Write.{fade_position, loop_start, loop_end, place_of}
 
@@ -18,9 +16,9 @@ abbrev pub VoiceFits : Voice → Type 0
 VoiceFits v = (fade_position v.phase < 2 ^ 64) × (v.position < 2 ^ 64)
 
 -- one of the two voices
-abbrev pub ActiveFits : Active → Type 0
-ActiveFits Neither = Unit {0}
-ActiveFits (Number i) = i < 2
+abbrev pub ActiveFits : Option ℕ → Type 0
+ActiveFits None = Unit {0}
+ActiveFits (Some i) = i < 2
 
 -- its numbers fit the fields of docs/TRIAL.md: two voices, sixteen places, of which those past the count are blank
 pub record Fitting (l : Leg) : Type 0 where

@@ -1,23 +1,21 @@
 -- Which bytes are a leg, by docs/TRIAL.md's "What is malformed", and which leg they are. Definitions only.
-use Rattle.std.specs.Prelude.{ℕ, zero, suc, ◌+◌, ◌-◌, ◌*◌, Bool, true, false, cond, ◌&&◌, ◌||◌, List, [], ◌∷◌, length, take, drop, replicate, ◌==◌, nat_le, nat_lt, slice_set}
+use Rattle.std.specs.Prelude.{ℕ, zero, suc, ◌+◌, ◌-◌, ◌*◌, Bool, true, false, cond, ◌&&◌, ◌||◌, List, [], ◌∷◌, length, take, drop, replicate, ◌==◌, nat_le, nat_lt, slice_set, Option, None, Some}
+use Rattle.std.specs.Bool.{then_some}
 use Rattle.timestamp.specs.declared.Timestamp.{Timestamp}
 use Rattle.sampler_event.specs.declared.Kind.{Kind}
 use Rattle.sampler_event.specs.declared.Kind.TheVariants.{Start, StartImmediate, Stop, EnableLoop, CancelLoop, CancelAll}
 use Rattle.sampler_event.specs.declared.Event.{Event}
 use Rattle.sampler_event.specs.Events.{blank_event}
 use Rattle.sampler_event.specs.Record.{little, time_from}
+use Rattle.event_processor.specs.declared.Queue.{Queue}
+use Rattle.sampler_voice.specs.declared.Voice.{Voice}
 use Rattle.sampler_voice.specs.declared.Phase.{Phase}
 use Rattle.sampler_voice.specs.declared.Phase.TheVariants.{Stopped, FadingIn, Playing, FadingOut}
-use Rattle.sampler_player.specs.declared.Active.{Active}
-use Rattle.sampler_player.specs.declared.Active.TheVariants.{Neither, Number}
+use Rattle.sampler_player.specs.declared.Points.{Points}
 use Rattle.sampler_player.specs.declared.Points.TheVariants.{Absent, Between}
 use Rattle.sampler_player.specs.declared.Setup.{Setup}
-use Rattle.leg_bytes.specs.declared.reading.VoiceRead.{VoiceRead}
-use Rattle.leg_bytes.specs.declared.reading.PointsRead.{PointsRead}
-use Rattle.leg_bytes.specs.declared.reading.PlayerRead.{PlayerRead}
-use Rattle.leg_bytes.specs.declared.reading.EventRead.{EventRead}
-use Rattle.leg_bytes.specs.declared.reading.QueueRead.{QueueRead}
-use Rattle.leg_bytes.specs.declared.reading.LegRead.{LegRead}
+use Rattle.sampler_player.specs.declared.Player.{Player}
+use Rattle.sampler_processor.specs.declared.Leg.{Leg}
 
 -- the number of n bytes from `at` on
 abbrev pub number_at : List ℕ → ℕ → ℕ → ℕ
@@ -37,6 +35,11 @@ phase_of k f = cond (k == 1) (FadingIn f) (cond (k == 2) Playing (cond (k == 3) 
 abbrev pub phase_good : ℕ → ℕ → Bool
 phase_good k f = cond (k == 1) true (cond (k == 3) true (cond (nat_lt k 4) (f == 0) false))
 
+-- a voice, and whether it is well formed
+pub record VoiceRead : Type 0 where
+  pub good : Bool
+  pub voice : Voice
+
 abbrev pub voice_at : List ℕ → ℕ → VoiceRead
 voice_at s at =
     let k = number_at s at 1 in
@@ -44,10 +47,16 @@ voice_at s at =
     record { good = phase_good k f; voice = record { position = number_at s (at + 9) 8; phase = phase_of k f } }
 
 -- ---- "active above 2"
-abbrev pub active_of : ℕ → Active
-active_of n = cond (n == 0) Neither (Number (n - 1))
+abbrev pub active_of : ℕ → Option ℕ
+active_of n = cond (n == 0) None (Some (n - 1))
 
 -- ---- "a loop byte above 1, points without a loop"
+
+-- the points, and whether they are well formed
+pub record PointsRead : Type 0 where
+  pub good : Bool
+  pub points : Points
+
 abbrev pub points_at : List ℕ → ℕ → PointsRead
 points_at s at =
     let k = number_at s at 1 in
@@ -56,6 +65,12 @@ points_at s at =
     (record { good = (k == 1); points = Between (time_at s (at + 1)) (time_at s (at + 9)) })
 
 -- ---- the player, from byte 13 on
+
+-- the player, and whether it is well formed
+pub record PlayerRead : Type 0 where
+  pub good : Bool
+  pub player : Player
+
 unfoldable pub player_at : List ℕ → PlayerRead
 player_at s =
     let a = voice_at s 13 in
@@ -89,6 +104,11 @@ kind_of k a b =
 abbrev pub kind_good : ℕ → ℕ → ℕ → Bool
 kind_good k a b = (nat_le 1 k && nat_le k 6) && (k == 4 || (b == 0 && (k == 1 || a == 0)))
 
+-- an event, and whether it is well formed
+pub record EventRead : Type 0 where
+  pub good : Bool
+  pub event : Event
+
 -- a place below the count
 abbrev pub event_at : List ℕ → ℕ → EventRead
 event_at s at =
@@ -119,13 +139,28 @@ abbrev pub places_good : List ℕ → ℕ → Bool
 places_good s zero = true
 places_good s (suc n) = places_good s n && (place_at s n).good
 
+-- the queue, and whether it is well formed
+pub record QueueRead : Type 0 where
+  pub good : Bool
+  pub queue : Queue
+
 unfoldable pub queue_at : List ℕ → QueueRead
 queue_at s = record { good = places_good s 16; queue = record { events = events_at s 16; count = number_at s 89 1 } }
 
 -- ---- the leg: 490 bytes, with no value "that the leg's own types can't hold"
+
+-- the leg, and whether the bytes are well formed
+pub record LegRead : Type 0 where
+  pub good : Bool
+  pub leg : Leg
+
 unfoldable pub read_leg : List ℕ → LegRead
 unfolding player_at queue_at
 read_leg s =
     let p = player_at s in
     let q = queue_at s in
     record { good = length s == 490 && (p.good && q.good); leg = record { setup = setup_at s; player = p.player; queue = q.queue } }
+
+-- the leg, where the bytes are one
+abbrev pub leg_of : List ℕ → Option Leg
+leg_of s = then_some (read_leg s).good (read_leg s).leg

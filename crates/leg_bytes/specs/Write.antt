@@ -1,5 +1,5 @@
 -- A leg in bytes, field by field in the order of docs/TRIAL.md. Definitions only.
-use Rattle.std.specs.Prelude.{ℕ, zero, suc, ◌+◌, ◌-◌, ◌%◌, ◌^◌, cond, List, [], ◌++◌, get_or, ℤ, pos, negsuc, nat_lt, slice_index_or}
+use Rattle.std.specs.Prelude.{ℕ, zero, suc, ◌+◌, ◌-◌, ◌%◌, ◌^◌, cond, List, [], ◌++◌, get_or, ℤ, pos, negsuc, nat_lt, slice_index_or, Option, None, Some}
 use Rattle.timestamp.specs.declared.Timestamp.{Timestamp}
 use Rattle.sampler_event.specs.declared.Kind.{Kind}
 use Rattle.sampler_event.specs.declared.Kind.TheVariants.{Start, StartImmediate, Stop, EnableLoop, CancelLoop, CancelAll}
@@ -10,8 +10,6 @@ use Rattle.sampler_voice.specs.declared.Phase.{Phase}
 use Rattle.sampler_voice.specs.declared.Phase.TheVariants.{Stopped, FadingIn, Playing, FadingOut}
 use Rattle.sampler_voice.specs.declared.Voice.{Voice}
 use Rattle.sampler_voice.specs.Voices.{silent}
-use Rattle.sampler_player.specs.declared.Active.{Active}
-use Rattle.sampler_player.specs.declared.Active.TheVariants.{Neither, Number}
 use Rattle.sampler_player.specs.declared.Points.{Points}
 use Rattle.sampler_player.specs.declared.Points.TheVariants.{Absent, Between}
 use Rattle.sampler_player.specs.declared.Setup.{Setup}
@@ -67,9 +65,9 @@ abbrev pub voice_bytes : Voice → List ℕ
 voice_bytes v = u8 (phase_number v.phase) ++ (u64 (fade_position v.phase) ++ u64 v.position)
 
 -- ---- "active: 0 none, 1 voice 0, 2 voice 1": 1
-abbrev pub active_number : Active → ℕ
-active_number Neither = 0
-active_number (Number i) = (i + 1) % 2 ^ 64
+abbrev pub active_number : Option ℕ → ℕ
+active_number None = 0
+active_number (Some i) = (i + 1) % 2 ^ 64
 
 -- ---- "loop: 0 none, 1; its two points i64, zeros where none": 1, 8, 8
 abbrev pub loop_number : Points → ℕ

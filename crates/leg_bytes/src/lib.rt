@@ -5,5 +5,5 @@
 mod reading;
 mod writing;
 
-pub use reading::{LegRead, read};
+pub use reading::read;
 pub use writing::bytes_of;

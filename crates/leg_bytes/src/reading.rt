@@ -1,10 +1,12 @@
-// A leg from its bytes, and whether they are one.
-ghost use Rattle.std.specs.Prelude.{◌≡◌, ◌<◌, ◌≤◌};
-ghost use Rattle.leg_bytes.specs.Read.{time_at, setup_at, phase_of, phase_good, voice_at, active_of, points_at, player_at, kind_of, kind_good, event_at, blank_at, place_at, queue_at, read_leg};
+// A leg from its bytes, where they are one. `at` is at most 490 in the contracts, so that no place
+// passes 64 bits: a slice from there on would ask for its length instead.
+ghost use Rattle.std.specs.Prelude.{◌≡◌, ◌<◌, ◌≤◌, nat_lt};
+ghost use Rattle.std.specs.Bool.{then_some};
+ghost use Rattle.leg_bytes.specs.Read.{time_at, setup_at, phase_of, phase_good, voice_at, active_of, points_at, player_at, kind_of, kind_good, event_at, blank_at, place_at, queue_at, leg_of};
 
 use event_processor::Queue;
 use sampler_event::{Event, Kind};
-use sampler_player::{Active, Player, Points, Setup};
+use sampler_player::{Player, Points, Setup};
 use sampler_processor::Leg;
 use sampler_voice::{Phase, Voice};
 use timestamp::Timestamp;
@@ -12,7 +14,7 @@ use timestamp::Timestamp;
 fn time_at(bytes: &[u8], at: usize) -> Timestamp
     ensures { result ≡ time_at bytes.now at }
 {
-    Timestamp::from_raw_i64(sampler_event::as_i64(words::number(bytes, at, 8)))
+    sampler_event::time_from(words::number(bytes, at, 8))
 }
 
 fn setup_at(bytes: &[u8]) -> Setup
@@ -28,235 +30,148 @@ fn setup_at(bytes: &[u8]) -> Setup
 
 // ---- a voice
 
-#[derive(Clone, Copy)]
-pub struct VoiceRead {
-    pub good: bool,
-    pub voice: Voice,
-}
-
-fn phase_of(kind: u64, fade: usize) -> Phase
-    ensures { result ≡ phase_of kind fade }
+fn phase_of(kind: u64, fade: usize) -> Option<Phase>
+    ensures { result ≡ then_some (phase_good kind fade) (phase_of kind fade) }
 {
-    match kind {
-        1 => Phase::FadingIn(fade),
-        2 => Phase::Playing,
-        3 => Phase::FadingOut(fade),
-        _ => Phase::Stopped,
+    match (kind, fade) {
+        (0 | 2, 0) | (1 | 3, _) => Some(Phase::numbered(kind, fade)),
+        _ => None,
     }
 }
 
-fn phase_good(kind: u64, fade: usize) -> bool
-    ensures { result ≡ phase_good kind fade }
-{
-    if kind == 1 {
-        return true;
-    }
-    if kind == 3 {
-        return true;
-    }
-    if kind < 4 { fade == 0 } else { false }
-}
-
-fn voice_at(bytes: &[u8], at: usize) -> VoiceRead
+fn voice_at(bytes: &[u8], at: usize) -> Option<Voice>
     requires { at ≤ 490 }
-    ensures { result ≡ voice_at bytes.now at }
+    ensures { result ≡ then_some (voice_at bytes.now at).good (voice_at bytes.now at).voice }
 {
     let kind = words::number(bytes, at, 1);
     let fade = words::number(bytes, at + 1, 8) as usize;
-    let position = words::number(bytes, at + 9, 8) as usize;
-    let phase = phase_of(kind, fade);
-    VoiceRead {
-        good: phase_good(kind, fade),
-        voice: Voice { position, phase },
-    }
+    Some(Voice {
+        phase: phase_of(kind, fade)?,
+        position: words::number(bytes, at + 9, 8) as usize,
+    })
 }
 
 // ---- what plays
 
-fn active_of(number: u64) -> Active
-    ensures { result ≡ active_of number }
+// Which voice is active, if any.
+fn active_of(number: u64) -> Option<Option<usize>>
+    ensures { result ≡ then_some (nat_lt number 3) (active_of number) }
 {
-    if number == 0 {
-        return Active::Neither;
+    match number {
+        0 => Some(None),
+        1 => Some(Some(0)),
+        2 => Some(Some(1)),
+        _ => None,
     }
-    Active::Number((number - 1) as usize)
 }
 
-#[derive(Clone, Copy)]
-pub struct PointsRead {
-    pub good: bool,
-    pub points: Points,
-}
-
-fn points_at(bytes: &[u8]) -> PointsRead
-    ensures { result ≡ points_at bytes.now 48 }
+fn points_at(bytes: &[u8]) -> Option<Points>
+    ensures { result ≡ then_some (points_at bytes.now 48).good (points_at bytes.now 48).points }
 {
     let any = words::number(bytes, 48, 1);
-    if any == 0 {
-        let from = words::number(bytes, 49, 8);
-        let end = words::number(bytes, 57, 8);
-        return PointsRead {
-            good: (from == 0) & (end == 0),
-            points: Points::Absent,
-        };
-    }
-    PointsRead {
-        good: any == 1,
-        points: Points::Between(time_at(bytes, 49), time_at(bytes, 57)),
+    let from = words::number(bytes, 49, 8);
+    let end = words::number(bytes, 57, 8);
+    match (any, from, end) {
+        (0, 0, 0) => Some(Points::Absent),
+        (1, _, _) => Some(Points::Between(time_at(bytes, 49), time_at(bytes, 57))),
+        _ => None,
     }
 }
 
-#[derive(Clone, Copy)]
-pub struct PlayerRead {
-    pub good: bool,
-    pub player: Player,
-}
-
-fn player_at(bytes: &[u8]) -> PlayerRead
-    ensures { result ≡ player_at bytes.now }
+#[tactic(auto, unfolding(crate::specs::Read::player_at))]
+fn player_at(bytes: &[u8]) -> Option<Player>
+    ensures { result ≡ then_some (player_at bytes.now).good (player_at bytes.now).player }
 {
-    let first = voice_at(bytes, 13);
-    let second = voice_at(bytes, 30);
-    let number = words::number(bytes, 47, 1);
-    let looped = points_at(bytes);
-    let a = first.voice;
-    let b = second.voice;
-    let voices = [a, b];
-    let points = looped.points;
-    let player = Player {
-        voices,
-        active: active_of(number),
-        points,
+    let first = voice_at(bytes, 13)?;
+    let second = voice_at(bytes, 30)?;
+    Some(Player {
+        voices: [first, second],
+        active: active_of(words::number(bytes, 47, 1))?,
+        points: points_at(bytes)?,
         position: time_at(bytes, 65),
         start: time_at(bytes, 73),
         completed: words::number(bytes, 81, 8) as usize,
-    };
-    PlayerRead {
-        good: first.good & (second.good & ((number < 3) & looped.good)),
-        player,
-    }
+    })
 }
 
 // ---- the queue
 
-#[derive(Clone, Copy)]
-pub struct EventRead {
-    pub good: bool,
-    pub event: Event,
-}
-
-fn kind_of(kind: u64, first: Timestamp, second: Timestamp) -> Kind
-    ensures { result ≡ kind_of kind first second }
-{
-    match kind {
-        2 => Kind::StartImmediate,
-        3 => Kind::Stop,
-        4 => Kind::EnableLoop(first, second),
-        5 => Kind::CancelLoop,
-        6 => Kind::CancelAll,
-        _ => Kind::Start(first),
-    }
-}
-
-// Whether there is such a kind, and it has the positions that are not 0.
-fn kind_good(kind: u64, first: u64, second: u64) -> bool
-    ensures { result ≡ kind_good kind first second }
-{
-    ((1 <= kind) & (kind <= 6)) & ((kind == 4) | ((second == 0) & ((kind == 1) | (first == 0))))
-}
-
-// A place that is used.
-fn event_at(bytes: &[u8], at: usize) -> EventRead
+// A place that is used: of a kind that there is, which has the positions that are not 0. No `Event::try_from`, which wants a
+// StartImmediate's time to be 0: a damaged leg may have another.
+fn event_at(bytes: &[u8], at: usize) -> Option<Event>
     requires { at ≤ 490 }
-    ensures { result ≡ event_at bytes.now at }
+    ensures { result ≡ then_some (event_at bytes.now at).good (event_at bytes.now at).event }
 {
     let number = words::number(bytes, at, 1);
     let first = words::number(bytes, at + 9, 8);
     let second = words::number(bytes, at + 17, 8);
-    let time = time_at(bytes, at + 1);
-    let kind = kind_of(number, time_at(bytes, at + 9), time_at(bytes, at + 17));
-    EventRead {
-        good: kind_good(number, first, second),
-        event: Event { time, kind },
-    }
+    let kind = match (number, first, second) {
+        (1, _, 0) => Kind::Start(time_at(bytes, at + 9)),
+        (2, 0, 0) => Kind::StartImmediate,
+        (3, 0, 0) => Kind::Stop,
+        (4, _, _) => Kind::EnableLoop(time_at(bytes, at + 9), time_at(bytes, at + 17)),
+        (5, 0, 0) => Kind::CancelLoop,
+        (6, 0, 0) => Kind::CancelAll,
+        _ => return None,
+    };
+    Some(Event {
+        time: time_at(bytes, at + 1),
+        kind,
+    })
 }
 
 // A place that is not used: zeros, which are the blank event here.
-fn blank_at(bytes: &[u8], at: usize) -> EventRead
+fn blank_at(bytes: &[u8], at: usize) -> Option<Event>
     requires { at ≤ 490 }
-    ensures { result ≡ blank_at bytes.now at }
+    ensures { result ≡ then_some (blank_at bytes.now at).good (blank_at bytes.now at).event }
 {
     let kind = words::number(bytes, at, 1);
     let time = words::number(bytes, at + 1, 8);
     let first = words::number(bytes, at + 9, 8);
     let second = words::number(bytes, at + 17, 8);
-    EventRead {
-        good: ((kind == 0) & (time == 0)) & ((first == 0) & (second == 0)),
-        event: Event::blank(),
+    match (kind, time, first, second) {
+        (0, 0, 0, 0) => Some(Event::blank()),
+        _ => None,
     }
 }
 
-fn place_at(bytes: &[u8], i: usize) -> EventRead
+fn place_at(bytes: &[u8], i: usize) -> Option<Event>
     requires { i < 16 }
-    ensures { result ≡ place_at bytes.now i }
+    ensures { result ≡ then_some (place_at bytes.now i).good (place_at bytes.now i).event }
 {
     let count = words::number(bytes, 89, 1) as usize;
     if i < count {
-        return event_at(bytes, 90 + 25 * i);
+        event_at(bytes, 90 + 25 * i)
+    } else {
+        blank_at(bytes, 90 + 25 * i)
     }
-    blank_at(bytes, 90 + 25 * i)
 }
 
-#[derive(Clone, Copy)]
-pub struct QueueRead {
-    pub good: bool,
-    pub queue: Queue,
-}
-
-fn queue_at(bytes: &[u8]) -> QueueRead
-    ensures { result ≡ queue_at bytes.now }
+fn queue_at(bytes: &[u8]) -> Option<Queue>
+    ensures { result ≡ then_some (queue_at bytes.now).good (queue_at bytes.now).queue }
 {
-    let none = Event::blank();
-    let mut events = [none; 16];
-    let mut good = true;
-    let mut i: usize = 0;
-    while i < 16 {
-        let read = place_at(bytes, i);
-        let event = read.event;
-        events[i] = event;
-        good = good & read.good;
-        i += 1;
+    let mut events = [Event::blank(); 16];
+    for (i, event) in events.iter_mut().enumerate() {
+        *event = place_at(bytes, i)?;
     }
-    let count = words::number(bytes, 89, 1) as usize;
-    QueueRead {
-        good,
-        queue: Queue { events, count },
-    }
+    Some(Queue {
+        events,
+        count: words::number(bytes, 89, 1) as usize,
+    })
 }
 
 // ---- the leg
 
-// Whether the bytes are well formed, and the leg that they are.
-#[derive(Clone, Copy)]
-pub struct LegRead {
-    pub good: bool,
-    pub leg: Leg,
-}
-
-pub fn read(bytes: &[u8]) -> LegRead
-    ensures { result ≡ read_leg bytes.now }
+// The leg that the bytes are, or none where they are malformed.
+pub fn read(bytes: &[u8]) -> Option<Leg>
+    ensures { result ≡ leg_of bytes.now }
 {
-    let setup = setup_at(bytes);
-    let played = player_at(bytes);
-    let waiting = queue_at(bytes);
-    let player = played.player;
-    let queue = waiting.queue;
-    LegRead {
-        good: (bytes.len() == 490) & (played.good & waiting.good),
-        leg: Leg {
-            setup,
-            player,
-            queue,
-        },
+    if bytes.len() != 490 {
+        return None;
     }
+    Some(Leg {
+        setup: setup_at(bytes),
+        player: player_at(bytes)?,
+        queue: queue_at(bytes)?,
+    })
 }

@@ -1,11 +1,12 @@
-// A leg as bytes. Each function stores one part of it at its place.
+// A leg as bytes. Each function stores one part of it at its place. `at` is at most 490 in the contracts, so that no place
+// passes 64 bits: a slice from there on would ask for its length instead.
 ghost use Rattle.std.specs.Prelude.{◌≡◌, ◌<◌, ◌≤◌, ◌++◌};
 ghost use Rattle.std.proofs.lemmas.List.Edits.{sets};
 ghost use Rattle.leg_bytes.specs.Write.{u64, i64, setup_bytes, phase_number, fade_position, voice_bytes, active_number, loop_number, loop_start, loop_end, points_bytes, player_bytes, record_of, place_of, record_bytes, queue_bytes, leg_bytes};
 
 use event_processor::Queue;
 use sampler_event::{Event, Kind, Record};
-use sampler_player::{Active, Player, Points, Setup};
+use sampler_player::{Player, Points, Setup};
 use sampler_processor::Leg;
 use sampler_voice::{Phase, Voice};
 use timestamp::Timestamp;
@@ -25,27 +26,17 @@ fn put_setup(bytes: &mut [u8; 490], setup: Setup)
     words::put(bytes, 9, 4, setup.fade as u64);
 }
 
-// ---- a voice
+// ---- a voice. Its phase's number, like an event's kind and a loop's, is the layout's: no `From` of a type of another crate
 
-fn phase_number(phase: Phase) -> u64
-    ensures { result ≡ phase_number phase }
+// The phase's number, and its fade position.
+fn phase_numbers(phase: Phase) -> (u64, usize)
+    ensures { result ≡ (phase_number phase, fade_position phase) }
 {
     match phase {
-        Phase::Stopped => 0,
-        Phase::FadingIn(_) => 1,
-        Phase::Playing => 2,
-        Phase::FadingOut(_) => 3,
-    }
-}
-
-fn fade_position(phase: Phase) -> usize
-    ensures { result ≡ fade_position phase }
-{
-    match phase {
-        Phase::Stopped => 0,
-        Phase::FadingIn(i) => i,
-        Phase::Playing => 0,
-        Phase::FadingOut(i) => i,
+        Phase::Stopped => (0, 0),
+        Phase::FadingIn(i) => (1, i),
+        Phase::Playing => (2, 0),
+        Phase::FadingOut(i) => (3, i),
     }
 }
 
@@ -53,56 +44,40 @@ fn put_voice(bytes: &mut [u8; 490], at: usize, voice: Voice)
     requires { at ≤ 490 }
     ensures { bytes.new ≡ sets bytes.old at (voice_bytes voice) }
 {
-    let phase = voice.phase;
-    words::put(bytes, at, 1, phase_number(phase));
-    words::put(bytes, at + 1, 8, fade_position(phase) as u64);
+    let (number, fade) = phase_numbers(voice.phase);
+    words::put(bytes, at, 1, number);
+    words::put(bytes, at + 1, 8, fade as u64);
     words::put(bytes, at + 9, 8, voice.position as u64);
 }
 
 // ---- what plays
 
-fn active_number(active: Active) -> u64
+fn active_number(active: Option<usize>) -> u64
     ensures { result ≡ active_number active }
 {
     match active {
-        Active::Neither => 0,
-        Active::Number(i) => std::num::wrapping_add_u64(i as u64, 1),
+        None => 0,
+        Some(i) => (i as u64).wrapping_add(1),
     }
 }
 
-fn loop_number(points: Points) -> u64
-    ensures { result ≡ loop_number points }
+// Whether there is a loop, and its two points, zeros where none.
+fn loop_numbers(points: Points) -> (u64, Timestamp, Timestamp)
+    ensures { result ≡ (loop_number points, loop_start points, loop_end points) }
 {
     match points {
-        Points::Absent => 0,
-        Points::Between(_, _) => 1,
-    }
-}
-
-fn loop_start(points: Points) -> Timestamp
-    ensures { result ≡ loop_start points }
-{
-    match points {
-        Points::Absent => Timestamp { bits: 0 },
-        Points::Between(start, _) => start,
-    }
-}
-
-fn loop_end(points: Points) -> Timestamp
-    ensures { result ≡ loop_end points }
-{
-    match points {
-        Points::Absent => Timestamp { bits: 0 },
-        Points::Between(_, end) => end,
+        Points::Absent => (0, Timestamp::zero(), Timestamp::zero()),
+        Points::Between(start, end) => (1, start, end),
     }
 }
 
 fn put_points(bytes: &mut [u8; 490], points: Points)
     ensures { bytes.new ≡ sets bytes.old 48 (points_bytes points) }
 {
-    words::put(bytes, 48, 1, loop_number(points));
-    put_time(bytes, 49, loop_start(points));
-    put_time(bytes, 57, loop_end(points));
+    let (number, start, end) = loop_numbers(points);
+    words::put(bytes, 48, 1, number);
+    put_time(bytes, 49, start);
+    put_time(bytes, 57, end);
 }
 
 // Position, start position, completed loops.
@@ -117,12 +92,10 @@ fn put_clock(bytes: &mut [u8; 490], position: Timestamp, start: Timestamp, compl
 fn put_player(bytes: &mut [u8; 490], player: Player)
     ensures { bytes.new ≡ sets bytes.old 13 (player_bytes player) }
 {
-    let active = player.active;
-    let points = player.points;
     put_voice(bytes, 13, player.voices[0]);
     put_voice(bytes, 30, player.voices[1]);
-    words::put(bytes, 47, 1, active_number(active));
-    put_points(bytes, points);
+    words::put(bytes, 47, 1, active_number(player.active));
+    put_points(bytes, player.points);
     put_clock(bytes, player.position, player.start, player.completed);
 }
 
@@ -131,25 +104,18 @@ fn put_player(bytes: &mut [u8; 490], player: Player)
 fn record_of(event: Event) -> Record
     ensures { result ≡ record_of event.time event.kind }
 {
-    let none = Timestamp { bits: 0 };
-    let time = event.time;
-    let kind = event.kind;
-    match kind {
-        Kind::Start(position) => of_kind(1, time, position, none),
-        Kind::StartImmediate => of_kind(2, time, none, none),
-        Kind::Stop => of_kind(3, time, none, none),
-        Kind::EnableLoop(from, end) => of_kind(4, time, from, end),
-        Kind::CancelLoop => of_kind(5, time, none, none),
-        Kind::CancelAll => of_kind(6, time, none, none),
-    }
-}
-
-fn of_kind(kind: u16, time: Timestamp, first: Timestamp, second: Timestamp) -> Record
-    ensures { result ≡ record { kind = kind; time = time; first = first; second = second } }
-{
+    let none = Timestamp::zero();
+    let (kind, first, second) = match event.kind {
+        Kind::Start(position) => (1, position, none),
+        Kind::StartImmediate => (2, none, none),
+        Kind::Stop => (3, none, none),
+        Kind::EnableLoop(from, end) => (4, from, end),
+        Kind::CancelLoop => (5, none, none),
+        Kind::CancelAll => (6, none, none),
+    };
     Record {
         kind,
-        time,
+        time: event.time,
         first,
         second,
     }
@@ -163,31 +129,31 @@ fn place_of(queue: Queue, i: usize) -> Record
     if i < queue.count {
         return record_of(queue.events[i]);
     }
-    let none = Timestamp { bits: 0 };
-    of_kind(0, none, none, none)
+    let none = Timestamp::zero();
+    Record {
+        kind: 0,
+        time: none,
+        first: none,
+        second: none,
+    }
 }
 
 fn put_record(bytes: &mut [u8; 490], at: usize, place: Record)
     requires { at ≤ 490 }
     ensures { bytes.new ≡ sets bytes.old at (record_bytes place) }
 {
-    let time = place.time;
-    let first = place.first;
-    let second = place.second;
-    words::put(bytes, at, 1, place.kind as u64);
-    put_time(bytes, at + 1, time);
-    put_time(bytes, at + 9, first);
-    put_time(bytes, at + 17, second);
+    words::put(bytes, at, 1, u64::from(place.kind));
+    put_time(bytes, at + 1, place.time);
+    put_time(bytes, at + 9, place.first);
+    put_time(bytes, at + 17, place.second);
 }
 
 fn put_queue(bytes: &mut [u8; 490], queue: Queue)
     ensures { bytes.new ≡ sets bytes.old 89 (queue_bytes queue) }
 {
     words::put(bytes, 89, 1, queue.count as u64);
-    let mut i: usize = 0;
-    while i < 16 {
+    for i in 0..16 {
         put_record(bytes, 90 + 25 * i, place_of(queue, i));
-        i += 1;
     }
 }
 
@@ -196,12 +162,9 @@ fn put_queue(bytes: &mut [u8; 490], queue: Queue)
 pub fn bytes_of(leg: Leg) -> [u8; 490]
     ensures { result ≡ leg_bytes leg }
 {
-    let setup = leg.setup;
-    let player = leg.player;
-    let queue = leg.queue;
-    let mut bytes = [0u8; 490];
-    put_setup(&mut bytes, setup);
-    put_player(&mut bytes, player);
-    put_queue(&mut bytes, queue);
+    let mut bytes = [0; 490];
+    put_setup(&mut bytes, leg.setup);
+    put_player(&mut bytes, leg.player);
+    put_queue(&mut bytes, leg.queue);
     bytes
 }

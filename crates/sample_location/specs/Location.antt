@@ -1,9 +1,10 @@
 -- What each call of `sample_location` answers: a value, or a number of document 01 and a value. 0 is no refusal; "Locations: 15". Definitions only.
-use Rattle.std.specs.Prelude.{ℕ, ◌+◌, ◌^◌, Bool, cond, nat_lt}
+use Rattle.std.specs.Prelude.{ℕ, ◌+◌, ◌^◌, Bool, cond, nat_lt, Result, Ok, Err}
 use Rattle.sample_location.specs.declared.SampleLocation.{SampleLocation}
-use Rattle.sample_location.specs.declared.LocationAnswer.{LocationAnswer}
 use Rattle.sample_location.specs.declared.SampleRange.{SampleRange}
-use Rattle.sample_location.specs.declared.RangeAnswer.{RangeAnswer}
+use Rattle.std.specs.declared.ops.Range.{Range}
+use Rattle.laws.specs.declared.Refusal.{Refusal}
+use Rattle.laws.specs.Rules.{number_of}
 
 -- ---- values, and the shape of an answer
 
@@ -14,6 +15,15 @@ place c f = record { channel = c; frame = f }
 -- the first channel and the first frame, and how many of each
 abbrev pub rectangle : ℕ → ℕ → ℕ → ℕ → SampleRange
 rectangle c f cs fs = record { channel = c; frame = f; channel_count = cs; frame_count = fs }
+
+-- a number and a place; a number and a range
+pub record LocationAnswer : Type 0 where
+  pub number : ℕ
+  pub location : SampleLocation
+
+pub record RangeAnswer : Type 0 where
+  pub number : ℕ
+  pub range : Range ℕ
 
 -- a place, and no refusal
 abbrev pub located : SampleLocation → LocationAnswer
@@ -30,6 +40,15 @@ ranged a e = record { number = 0; range = record { start = a; end = e } }
 -- "location or range: zeros"
 abbrev pub unranged : ℕ → RangeAnswer
 unranged n = record { number = n; range = record { start = 0; end = 0 } }
+
+-- the number and the value of each case of what the code answers
+abbrev pub told : Result SampleLocation Refusal → LocationAnswer
+told (Ok l) = located l
+told (Err r) = unlocated (number_of r)
+
+abbrev pub told_range : Result (Range ℕ) Refusal → RangeAnswer
+told_range (Ok a) = record { number = 0; range = a }
+told_range (Err r) = unranged (number_of r)
 
 -- ---- the rule, and the calls that have a sum
 

@@ -1,68 +1,27 @@
 // sample_location.rs: a place in an audio buffer, by channel and frame, and a rectangle of such places.
-// Every function is total: where the Rust's sum would overflow, the answer has document 01's number 15
-// and zeros.
+// Every function is total: where the Rust's sum would overflow, the answer is an `Err` of document 01's number 15.
 #![tactic(auto)]
 
-ghost use Rattle.std.specs.Prelude.{◌≡◌, ◌+◌};
-ghost use Rattle.sample_location.specs.Location.{fits, place, moved_frames, moved_channels, rectangle, range_from};
+ghost use Rattle.std.specs.Prelude.{◌≡◌};
+ghost use Rattle.sample_location.specs.Location.{told, told_range, place, moved_frames, moved_channels, rectangle, range_from};
 
-// ---- what the Rust has from its library
+use laws::Refusal;
+use std::ops::Range;
 
-// `std::ops::Range<usize>`: start is in it, end is not.
-#[derive(Clone, Copy)]
-pub struct Range {
-    pub start: usize,
-    pub end: usize,
-}
-
-// ---- answers
-
-// A place, and 0, or the number of a refusal and the origin.
-#[derive(Clone, Copy)]
-pub struct LocationAnswer {
-    pub number: u8,
-    pub location: SampleLocation,
-}
-
-// A range, and 0, or the number of a refusal and 0 to 0.
-#[derive(Clone, Copy)]
-pub struct RangeAnswer {
-    pub number: u8,
-    pub range: Range,
-}
-
-// ---- sums, with a test first, since a sum that does not fit is no value
-
-// Whether a + b fits 64 bits, told by a difference, which always does.
-fn sum_fits(a: usize, b: usize) -> bool
-    ensures { result ≡ fits (a + b) }
-{
-    a <= 18446744073709551615 - b
-}
+// What has a channel's and a frame's form has rawdio's two names, each with its promise: one generic function would be no
+// plainer than the two lines.
 
 // One rule for channels and frames: count of them, from start on.
-fn range_from(start: usize, count: usize) -> RangeAnswer
-    ensures { result ≡ range_from start count }
+fn range_from(start: usize, count: usize) -> Result<Range<usize>, Refusal>
+    ensures { told_range result ≡ range_from start count }
 {
-    if sum_fits(start, count) {
-        RangeAnswer {
-            number: 0,
-            range: Range {
-                start,
-                end: start + count,
-            },
-        }
-    } else {
-        RangeAnswer {
-            number: 15,
-            range: Range { start: 0, end: 0 },
-        }
-    }
+    let end = start.checked_add(count).ok_or(Refusal::NoResult)?;
+    Ok(start..end)
 }
 
 // ---- sample_location.rs
 
-#[derive(Clone, Copy)]
+#[derive(Clone, Copy, Debug, PartialEq, Eq)]
 pub struct SampleLocation {
     pub channel: usize,
     pub frame: usize,
@@ -87,56 +46,30 @@ impl SampleLocation {
         SampleLocation { channel: 0, frame }
     }
 
-    pub fn offset_frames(self, frame_offset: usize) -> LocationAnswer
-        ensures { result ≡ moved_frames self frame_offset }
+    pub fn offset_frames(self, frame_offset: usize) -> Result<SampleLocation, Refusal>
+        ensures { told result ≡ moved_frames self frame_offset }
     {
-        let frame = self.frame;
-        if sum_fits(frame, frame_offset) {
-            LocationAnswer {
-                number: 0,
-                location: self.with_frame(frame + frame_offset),
-            }
-        } else {
-            LocationAnswer {
-                number: 15,
-                location: SampleLocation::origin(),
-            }
-        }
+        let moved = range_from(self.frame, frame_offset)?;
+        Ok(self.with_frame(moved.end))
     }
 
-    pub fn offset_channels(self, channel_offset: usize) -> LocationAnswer
-        ensures { result ≡ moved_channels self channel_offset }
+    pub fn offset_channels(self, channel_offset: usize) -> Result<SampleLocation, Refusal>
+        ensures { told result ≡ moved_channels self channel_offset }
     {
-        let channel = self.channel;
-        if sum_fits(channel, channel_offset) {
-            LocationAnswer {
-                number: 0,
-                location: self.with_channel(channel + channel_offset),
-            }
-        } else {
-            LocationAnswer {
-                number: 15,
-                location: SampleLocation::origin(),
-            }
-        }
+        let moved = range_from(self.channel, channel_offset)?;
+        Ok(self.with_channel(moved.end))
     }
 
     pub fn with_channel(self, channel: usize) -> SampleLocation
         ensures { result ≡ place channel self.frame }
     {
-        SampleLocation {
-            channel,
-            frame: self.frame,
-        }
+        SampleLocation { channel, ..self }
     }
 
     pub fn with_frame(self, frame: usize) -> SampleLocation
         ensures { result ≡ place self.channel frame }
     {
-        SampleLocation {
-            channel: self.channel,
-            frame,
-        }
+        SampleLocation { frame, ..self }
     }
 
     pub fn origin() -> SampleLocation
@@ -149,7 +82,7 @@ impl SampleLocation {
     }
 }
 
-#[derive(Clone, Copy)]
+#[derive(Clone, Copy, Debug, PartialEq, Eq)]
 pub struct SampleRange {
     pub channel: usize,
     pub frame: usize,
@@ -185,14 +118,14 @@ impl SampleRange {
         }
     }
 
-    pub fn channel_range(self) -> RangeAnswer
-        ensures { result ≡ range_from self.channel self.channel_count }
+    pub fn channel_range(self) -> Result<Range<usize>, Refusal>
+        ensures { told_range result ≡ range_from self.channel self.channel_count }
     {
         range_from(self.channel, self.channel_count)
     }
 
-    pub fn frame_range(self) -> RangeAnswer
-        ensures { result ≡ range_from self.frame self.frame_count }
+    pub fn frame_range(self) -> Result<Range<usize>, Refusal>
+        ensures { told_range result ≡ range_from self.frame self.frame_count }
     {
         range_from(self.frame, self.frame_count)
     }

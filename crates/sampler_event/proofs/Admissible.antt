@@ -19,7 +19,7 @@ use Rattle.sampler_event.specs.Events.{timed}
 use Rattle.sampler_event.specs.Record.{is_zero, event_if, event_of, fields, read_record}
 use Rattle.sampler_event.specs.Limits.{time_bad, positions_bad, loop_bad, event_fault, admissible}
 use Rattle.sampler_event.specs.Command.{command_answer}
-use Rattle.sampler_event.proofs.Limits.{UpTo, within_up}
+use Rattle.sampler_event.proofs.UpTo.{UpTo, within_up}
 use Rattle.laws.proofs.Rules.{held}
 use Rattle.sampler_event.proofs.Answers.{taken}
 

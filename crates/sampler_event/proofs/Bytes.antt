@@ -1,33 +1,50 @@
 -- A number read from its highest byte down.
--- The idea: each turn puts one byte below those that were read. Assumes nothing.
-use Prim.Native.Nat.{ℕ, suc, ◌+◌, ◌*◌, ◌-◌, ◌^◌, ◌≤◌, ◌<◌}
-use mathlib.Core.Path.{◌≡◌, refl, ap}
-use mathlib.Core.List.{List}
+-- The idea: what is read is the number of the last bytes, and each turn puts one more byte below them. Assumes nothing.
+use Prim.Native.Nat.{ℕ, ◌+◌, ◌*◌, ◌^◌, ◌≤◌, ◌<◌}
+use mathlib.Core.Path.{◌≡◌, refl, sym, ◌∙◌}
+use mathlib.Core.List.{List, [], ◌∷◌, ◌++◌, append-nil, append_assoc}
 use native.Mathlib.Omega.{arith}
 use native.Mathlib.Nat.{pow-suc, pow-le-pow_right, lt_of_lt_of_le}
-use lib.ListN.{length, take, drop, get_or}
-use lib.Seq.{drop-cons}
+use lib.ListN.{length, get_or, length-append}
+use lib.Seq.{get_or-append_seam}
+use mir.Syntax.{w8}
+use mir.Val.{Fits}
 use lib.Dec.{lit<}
 use Rattle.sampler_event.specs.Record.{little}
 
-first_byte : (s : List ℕ) (j k : ℕ) → j < length s → little (take (suc k) (drop j s)) ≡ get_or s j 0 + 256 * little (take k (drop (suc j) s))
-first_byte s j k h = rw (drop-cons s j 0 h) refl
+-- number is that of the bytes past rest
+pub record Past (bytes rest : List ℕ) (number : ℕ) : Type 0 where
+  pub read : List ℕ
+  pub all : bytes ≡ rest ++ read
+  pub value : number ≡ little read
+  pub bound : number < 256 ^ length read
 
-pub turn : (s : List ℕ) (at n i number : ℕ) → 0 < i → i ≤ n → at + n ≤ length s → number ≡ little (take (n - i) (drop (at + i) s))
-    → number * 256 + get_or s (at + (i - 1)) 0 ≡ little (take (n - (i - 1)) (drop (at + (i - 1)) s))
-turn s at n i number p q h e =
-    let a : n - (i - 1) ≡ suc (n - i) = omega arith in
-    let b : at + i ≡ suc (at + (i - 1)) = omega arith in
-    let f = ap (λ (x : ℕ). little (take (n - i) (drop x s))) b in
-    let g = first_byte s (at + (i - 1)) (n - i) (omega arith) in
-    rw a (omega arith)
+pub past_none : (bytes : List ℕ) → Past bytes bytes 0
+past_none bytes = record { read = []; all = sym (append-nil bytes); value = refl; bound = lit< tt }
 
--- ---- how large it is
-pub grows : (n i number b : ℕ) → 0 < i → i ≤ n → number < 256 ^ (n - i) → b < 256 → number * 256 + b < 256 ^ (n - (i - 1))
-grows n i number b p q h k =
-    let a : n - (i - 1) ≡ suc (n - i) = omega arith in
-    let e = pow-suc 256 (n - i) in
-    rw a (omega arith)
+module _ (bytes rest next : List ℕ) (number b : ℕ) (last : rest ≡ next ++ (b ∷ [])) (p : Past bytes rest number) where
+  seam : bytes ≡ next ++ (b ∷ p.read)
+  seam = p.all ∙ rw last (append_assoc next (b ∷ []) p.read)
 
-pub seven : (k number : ℕ) → k ≤ 7 → number < 256 ^ k → number < 2 ^ 56
-seven k number h p = lt_of_lt_of_le p (pow-le-pow_right (lit< tt) h)
+  -- the byte is one of them
+  pub past_byte : ((i : ℕ) → Fits w8 (get_or bytes i 0)) → b < 256
+  past_byte f = rw (seam, get_or-append_seam next b p.read 0) at ((f (length next)).fits)
+
+  pub past_one : b < 256 → Past bytes next (number * 256 + b)
+  past_one h =
+      let e = pow-suc 256 (length p.read) in
+      let v = p.value in
+      let m = p.bound in
+      record { read = b ∷ p.read; all = seam; value = omega arith; bound = omega arith }
+
+  -- before a turn, of at most 8 bytes
+  pub past_below : length bytes ≤ 8 → number < 2 ^ 56
+  past_below h =
+      let k : length bytes ≡ length next + (1 + length p.read) = rw seam (simp length-append (omega arith)) in
+      let j : length p.read ≤ 7 = omega arith in
+      lt_of_lt_of_le p.bound (pow-le-pow_right (lit< tt) j)
+
+-- at the end
+pub past_all : (bytes rest : List ℕ) (number : ℕ) → length rest ≡ 0 → Past bytes rest number → (number ≡ little bytes) × (number < 256 ^ length bytes)
+past_all bytes [] number e p = rw p.all (p.value, p.bound)
+past_all bytes (x ∷ rest) number e p = absurd (omega arith)

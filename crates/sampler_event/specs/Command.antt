@@ -1,13 +1,19 @@
 -- What a record is answered with: the event, and 0, or the number of a refusal and the blank event. Definitions only.
-use Rattle.std.specs.Prelude.{ℕ, cond, List, eqb}
+use Rattle.std.specs.Prelude.{ℕ, cond, List, eqb, Result, Ok, Err}
 use Rattle.std.proofs.Math.Option.{Option, none, some}
+use Rattle.laws.specs.declared.Refusal.{Refusal}
+use Rattle.laws.specs.Rules.{number_of}
 use Rattle.sampler_event.specs.declared.Event.{Event}
-use Rattle.sampler_event.specs.declared.EventAnswer.{EventAnswer}
 use Rattle.sampler_event.specs.Events.{blank_event}
 use Rattle.sampler_event.specs.Record.{read_record}
 use Rattle.sampler_event.specs.Limits.{event_fault}
 
 -- ---- the shape of an answer
+
+-- an event, and 0, or the number of a refusal and the blank event
+pub record EventAnswer : Type 0 where
+  pub number : ℕ
+  pub event : Event
 
 -- an event, and no refusal
 abbrev pub taken_event : Event → EventAnswer
@@ -16,6 +22,11 @@ taken_event e = record { number = 0; event = e }
 -- a refusal holds the blank event
 abbrev pub refused_event : ℕ → EventAnswer
 refused_event n = record { number = n; event = blank_event }
+
+-- the number and the event of each case of what the code answers
+abbrev pub told : Result Event Refusal → EventAnswer
+told (Ok e) = taken_event e
+told (Err r) = refused_event (number_of r)
 
 -- an event that a number refuses, 0 being no refusal
 abbrev pub answered : ℕ → Event → EventAnswer

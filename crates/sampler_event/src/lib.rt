@@ -3,18 +3,19 @@
 // number is gone: among equal times the queue keeps the place of submission.
 #![tactic(auto)]
 
-ghost use Rattle.std.specs.Prelude.{◌≡◌, false, ◌+◌, ◌^◌, ◌≤◌, ◌<◌, max, pos, length, take, drop};
-ghost use Rattle.laws.specs.Rules.{within};
+ghost use Rattle.std.specs.Prelude.{◌≡◌, false, ◌&&◌, ◌||◌, ◌^◌, ◌≤◌, ◌<◌, max, pos, length};
+ghost use Rattle.laws.specs.Rules.{within, number_in};
 ghost use Rattle.sampler_event.specs.Events.{event_at, event_now, blank_event, timed, is_cancel_all};
-ghost use Rattle.sampler_event.specs.Record.{little, as_i64, time_from, fields, is_zero, event_if, event_of};
+ghost use Rattle.sampler_event.specs.Record.{little, as_i64, time_from, fields, is_zero, event_of};
 ghost use Rattle.sampler_event.specs.Limits.{place_bad, positions_bad, loop_short, loop_bad, event_fault, admissible};
-ghost use Rattle.sampler_event.specs.Command.{refused_event, asked, command_answer};
+ghost use Rattle.sampler_event.specs.Command.{told, asked, command_answer};
 
+use laws::Refusal;
 use timestamp::Timestamp;
 
 // ---- sampler_event.rs
 
-#[derive(Clone, Copy)]
+#[derive(Clone, Copy, Debug, PartialEq, Eq)]
 pub enum Kind {
     Start(Timestamp),
     StartImmediate,
@@ -24,7 +25,7 @@ pub enum Kind {
     CancelAll,
 }
 
-#[derive(Clone, Copy)]
+#[derive(Clone, Copy, Debug, PartialEq, Eq)]
 pub struct Event {
     pub time: Timestamp,
     pub kind: Kind,
@@ -40,6 +41,8 @@ fn at_once(kind: Kind) -> Event
     }
 }
 
+// One function for each event, by the Rust's names: they differ in the kind alone, and what they have in common is the
+// public struct itself, so a generic one would be no plainer.
 impl Event {
     pub fn get_event_type(self) -> Kind
         ensures { result ≡ self.kind }
@@ -126,18 +129,10 @@ impl Event {
     pub fn should_clear_queue(self) -> bool
         ensures { result ≡ is_cancel_all self.kind }
     {
-        let kind = self.kind;
-        match kind {
-            Kind::Start(_) => false,
-            Kind::StartImmediate => false,
-            Kind::Stop => false,
-            Kind::EnableLoop(_, _) => false,
-            Kind::CancelLoop => false,
-            Kind::CancelAll => true,
-        }
+        matches!(self.kind, Kind::CancelAll)
     }
 
-    // What a refusal holds, and a place of the queue that is not used.
+    // What `told` gives for a refusal, and a place of the queue that is not used.
     pub fn blank() -> Event
         ensures { result ≡ blank_event }
     {
@@ -157,15 +152,7 @@ const LAST_PLACE: i64 = 4398046511104;
 pub fn within(t: Timestamp, low: i64, high: i64) -> bool
     ensures { result ≡ within low high t.bits }
 {
-    let bits = t.bits;
-    (low <= bits) & (bits <= high)
-}
-
-fn is_zero(t: Timestamp) -> bool
-    ensures { result ≡ is_zero t }
-{
-    let bits = t.bits;
-    bits == 0
+    (low..=high).contains(&t.bits)
 }
 
 // ---- numbers 10, 11 and 12
@@ -177,7 +164,7 @@ pub fn place_bad(t: Timestamp) -> bool
     !within(t, 0, LAST_PLACE)
 }
 
-// The number that a position past 11 is.
+// The number that a position past 11 is: no `try_from`, whose error could not be.
 fn units(t: Timestamp) -> usize
     requires { place_bad t.bits ≡ false }
     ensures { t.bits ≡ pos result }
@@ -185,28 +172,33 @@ fn units(t: Timestamp) -> usize
     t.bits as usize
 }
 
+// What a leg's setup says of the events that it can take.
+#[derive(Clone, Copy, Debug, PartialEq, Eq)]
+pub struct Limits {
+    pub rate: usize,
+    pub fade: usize,
+    pub ghost fast: { rate ≤ 96000 },
+    pub ghost fade_bound: { fade ≤ 4800 },
+}
+
 // The fewest frames that a loop may have.
 fn least_frames(fade: usize) -> usize
     ensures { result ≡ max fade 64 }
 {
-    if fade < 64 { 64 } else { fade }
+    fade.max(64)
 }
 
-// Number 12, of points that pass 11: so the product stays below 2^59.
-pub fn loop_short(start: Timestamp, end: Timestamp, rate: usize, fade: usize) -> bool
+// Number 12, of points that pass 11: so the product stays below 2^59. That a position passes 11 stays a clause: a kind
+// holds any, and 11 refuses it.
+pub fn loop_short(start: Timestamp, end: Timestamp, limits: Limits) -> bool
     requires start_good { place_bad start.bits ≡ false }
     requires end_good { place_bad end.bits ≡ false }
-    requires fast { rate ≤ 96000 }
-    requires fade_bound { fade ≤ 4800 }
-    ensures { result ≡ loop_short rate fade start.bits end.bits }
+    ensures { result ≡ loop_short limits.rate limits.fade start.bits end.bits }
 {
-    let a = units(start);
-    let b = units(end);
-    if b < a {
+    let Some(length) = units(end).checked_sub(units(start)) else {
         return true;
-    }
-    let least = least_frames(fade);
-    (b - a) * rate + 2147483648 < least * 4294967296
+    };
+    length * limits.rate + 2147483648 < least_frames(limits.fade) * 4294967296
 }
 
 impl Kind {
@@ -214,14 +206,7 @@ impl Kind {
     fn timed(self) -> bool
         ensures { result ≡ timed self }
     {
-        match self {
-            Kind::Start(_) => true,
-            Kind::StartImmediate => false,
-            Kind::Stop => true,
-            Kind::EnableLoop(_, _) => true,
-            Kind::CancelLoop => true,
-            Kind::CancelAll => false,
-        }
+        !matches!(self, Kind::StartImmediate | Kind::CancelAll)
     }
 
     // Number 11.
@@ -230,68 +215,62 @@ impl Kind {
     {
         match self {
             Kind::Start(position) => place_bad(position),
-            Kind::StartImmediate => false,
-            Kind::Stop => false,
-            Kind::EnableLoop(start, end) => place_bad(start) | place_bad(end),
-            Kind::CancelLoop => false,
-            Kind::CancelAll => false,
+            Kind::EnableLoop(start, end) => place_bad(start) || place_bad(end),
+            _ => false,
         }
     }
 
     // Number 12.
-    fn loop_bad(self, rate: usize, fade: usize) -> bool
-        requires positions_good { positions_bad self ≡ false }
-        requires fast { rate ≤ 96000 }
-        requires fade_bound { fade ≤ 4800 }
-        ensures { result ≡ loop_bad rate fade self }
+    fn loop_bad(self, limits: Limits) -> bool
+        requires { positions_bad self ≡ false }
+        ensures { result ≡ loop_bad limits.rate limits.fade self }
     {
         match self {
-            Kind::Start(_) => false,
-            Kind::StartImmediate => false,
-            Kind::Stop => false,
-            Kind::EnableLoop(start, end) => loop_short(start, end, rate, fade),
-            Kind::CancelLoop => false,
-            Kind::CancelAll => false,
+            Kind::EnableLoop(start, end) => loop_short(start, end, limits),
+            _ => false,
         }
     }
 }
 
 impl Event {
-    // What refuses an event by itself: 10, 11, 12, or 0 for nothing.
-    pub fn fault(self, rate: usize, fade: usize) -> u8
-        requires fast { rate ≤ 96000 }
-        requires fade_bound { fade ≤ 4800 }
-        ensures { result ≡ event_fault rate fade self }
+    // What refuses an event by itself: 10, 11, 12, or nothing.
+    #[tactic(auto, unfolding(crate::specs::Limits::event_fault))]
+    pub fn fault(self, limits: Limits) -> Result<(), Refusal>
+        ensures { number_in result ≡ event_fault limits.rate limits.fade self }
     {
-        let kind = self.kind;
         if !within(self.time, 0, LAST_TIME) {
-            return 10;
+            return Err(Refusal::EventTime);
         }
-        if kind.positions_bad() {
-            return 11;
+        if self.kind.positions_bad() {
+            return Err(Refusal::Position);
         }
-        if kind.loop_bad(rate, fade) {
-            return 12;
+        if self.kind.loop_bad(limits) {
+            return Err(Refusal::LoopShort);
         }
-        0
+        Ok(())
+    }
+
+    // Whether an event has the time 0 where its kind has no other.
+    fn timely(self) -> bool
+        ensures { result ≡ (timed self.kind || is_zero self.time) }
+    {
+        self.kind.timed() || self.time == Timestamp::zero()
     }
 
     // Whether an event is one that a command can have entered.
-    pub fn admissible(self, rate: usize, fade: usize) -> bool
-        requires fast { rate ≤ 96000 }
-        requires fade_bound { fade ≤ 4800 }
-        ensures { result ≡ admissible rate fade self }
+    #[tactic(auto, using(crate::proofs::Answers::number_ok), unfolding(crate::specs::Limits::admissible))]
+    pub fn admissible(self, limits: Limits) -> bool
+        ensures { result ≡ admissible limits.rate limits.fade self }
     {
-        let kind = self.kind;
-        let number = self.fault(rate, fade);
-        (number == 0) & (kind.timed() | is_zero(self.time))
+        self.fault(limits).is_ok() && self.timely()
     }
 }
 
 // ---- the record
 
-// A record as a value, its fields in its order. What is a time or not used is a `Timestamp`.
-#[derive(Clone, Copy)]
+// A record as a value, its fields in its order. What is a time or not used is a `Timestamp`; the kind is a number, since it
+// may be unknown (`fields` and `event_of`, specs/Record, are said of it).
+#[derive(Clone, Copy, Debug, PartialEq, Eq)]
 pub struct Record {
     pub kind: u16,
     pub time: Timestamp,
@@ -299,138 +278,110 @@ pub struct Record {
     pub second: Timestamp,
 }
 
-// An event, and 0, or the number of a refusal and the blank event.
-#[derive(Clone, Copy)]
-pub struct EventAnswer {
-    pub number: u8,
-    pub event: Event,
-}
-
-// 64 bits as a signed number.
+// 64 bits as a signed number: std's, with document 01's "as i64" as its promise, which the readers of bytes cite.
 pub fn as_i64(u: u64) -> i64
     ensures { result ≡ as_i64 u }
 {
-    if u < 0x8000_0000_0000_0000 {
-        u as i64
-    } else {
-        -1 - ((0xFFFF_FFFF_FFFF_FFFF - u) as i64)
-    }
+    u.cast_signed()
 }
 
-// The same as a time.
-fn time_from(u: u64) -> Timestamp
-    ensures { result ≡ time_from u }
-{
-    Timestamp::from_raw_i64(as_i64(u))
-}
-
-// A byte in 64 bits.
-fn wide(byte: u8) -> u64
-    ensures { (result ≡ byte) × (result < 256) }
-{
-    byte as u64
-}
-
-// The number of n bytes from at on, the lowest first. Each of them is read once.
-fn little(bytes: &[u8], at: usize, n: usize) -> u64
-    requires few_bytes { n ≤ 8 }
-    requires in_bounds { at + n ≤ length bytes.now }
-    ensures value { result ≡ little (take n (drop at bytes.now)) }
-    ensures bound { result < 256 ^ n }
+// The number of at most 8 bytes, the lowest first. Each of them is read once.
+pub fn little(bytes: &[u8]) -> u64
+    requires { length bytes.now ≤ 8 }
+    ensures value { result ≡ little bytes.now }
+    ensures bound { result < 256 ^ length bytes.now }
 {
     let mut number: u64 = 0;
-    let mut i = n;
-    while 0 < i {
-        i -= 1;
-        number = number * 256 + wide(bytes[at + i]);
+    for byte in bytes.iter().rev() {
+        number = number * 256 + u64::from(*byte);
     }
     number
 }
 
+// 64 bits as a time.
+pub fn time_from(u: u64) -> Timestamp
+    ensures { result ≡ time_from u }
+{
+    Timestamp::from_raw_i64(as_i64(u))
+}
 // The record, fetched: the four calls read each of its bytes once, nothing else in the crate reads
 // one, and everything after takes the value. So what is judged is what is used, whatever becomes of
 // the bytes. `&[u8]` promises that nobody writes them while they are lent, and the host has to keep
 // that promise against a guest that writes meanwhile: it lends memory that the guest cannot write
-// during the call, or first copies the 26 bytes once into memory of its own and lends the copy.
+// during the call, or first copies the 26 bytes once into memory of its own and lends the copy. A slice goes in, and no array by
+// `From`: docs/RULES.md names this function.
+#[tactic(auto, unfolding(crate::specs::Record::fields))]
 pub fn fetch(bytes: &[u8]) -> Record
     requires { length bytes.now ≡ 26 }
     ensures { result ≡ fields bytes.now }
 {
-    let kind = little(bytes, 0, 2);
-    let time = little(bytes, 2, 8);
-    let first = little(bytes, 10, 8);
-    let second = little(bytes, 18, 8);
     Record {
-        kind: kind as u16,
-        time: time_from(time),
-        first: time_from(first),
-        second: time_from(second),
-    }
-}
-
-fn refusal(number: u8) -> EventAnswer
-    ensures { result ≡ refused_event number }
-{
-    EventAnswer {
-        number,
-        event: Event::blank(),
-    }
-}
-
-// An event, or 13 where what has to be zero is not.
-fn event_if(zeros: bool, time: Timestamp, kind: Kind) -> EventAnswer
-    ensures { result ≡ asked (event_if zeros time kind) }
-{
-    if zeros {
-        EventAnswer {
-            number: 0,
-            event: Event { time, kind },
-        }
-    } else {
-        refusal(13)
+        kind: little(&bytes[..2]) as u16,
+        time: time_from(little(&bytes[2..10])),
+        first: time_from(little(&bytes[10..18])),
+        second: time_from(little(&bytes[18..26])),
     }
 }
 
 impl Record {
-    // The event that a record is, or 13.
-    pub fn event(self) -> EventAnswer
-        ensures { result ≡ asked (event_of self) }
+    // What the kinds that use no more leave at zero: the second field, both points, and the time too.
+    fn no_second(self) -> bool
+        ensures { result ≡ is_zero self.second }
     {
-        let time = self.time;
-        let first = self.first;
-        let second = self.second;
-        let no_second = is_zero(second);
-        let no_points = is_zero(first) & no_second;
-        let nothing = is_zero(time) & no_points;
-        let kind = self.kind;
-        match kind {
-            1 => event_if(no_second, time, Kind::Start(first)),
-            2 => event_if(nothing, time, Kind::StartImmediate),
-            3 => event_if(no_points, time, Kind::Stop),
-            4 => event_if(true, time, Kind::EnableLoop(first, second)),
-            5 => event_if(no_points, time, Kind::CancelLoop),
-            6 => event_if(nothing, time, Kind::CancelAll),
-            _ => refusal(13),
-        }
+        self.second == Timestamp::zero()
+    }
+
+    fn no_points(self) -> bool
+        ensures { result ≡ (is_zero self.first && is_zero self.second) }
+    {
+        self.first == Timestamp::zero() && self.no_second()
+    }
+
+    fn nothing(self) -> bool
+        ensures { result ≡ (is_zero self.time && (is_zero self.first && is_zero self.second)) }
+    {
+        self.time == Timestamp::zero() && self.no_points()
+    }
+}
+
+impl TryFrom<Record> for Event {
+    type Error = Refusal;
+
+    ghost try_from_gives = { λ fields answer. told answer ≡ asked (event_of fields) };
+
+    // The event that a record is, or 13.
+    #[tactic(auto, unfolding(crate::specs::Record::event_of))]
+    fn try_from(fields: Record) -> Result<Event, Refusal> {
+        let Record {
+            kind,
+            time,
+            first,
+            second,
+        } = fields;
+        let kind = match kind {
+            1 if fields.no_second() => Kind::Start(first),
+            2 if fields.nothing() => Kind::StartImmediate,
+            3 if fields.no_points() => Kind::Stop,
+            4 => Kind::EnableLoop(first, second),
+            5 if fields.no_points() => Kind::CancelLoop,
+            6 if fields.nothing() => Kind::CancelAll,
+            _ => return Err(Refusal::Record),
+        };
+        Ok(Event { time, kind })
     }
 }
 
 // ---- the command
 
 // A record's event, or what refuses it: 13, 10, 11, 12 in this order.
-pub fn command(bytes: &[u8], rate: usize, fade: usize) -> EventAnswer
-    requires fast { rate ≤ 96000 }
-    requires fade_bound { fade ≤ 4800 }
-    ensures { result ≡ command_answer rate fade bytes.now }
+#[tactic(auto, using(crate::proofs::Answers::answering), unfolding(crate::specs::Command::command_answer, crate::specs::Record::read_record))]
+pub fn command(bytes: &[u8], limits: Limits) -> Result<Event, Refusal>
+    ensures { told result ≡ command_answer limits.rate limits.fade bytes.now }
 {
     if bytes.len() != 26 {
-        return refusal(13);
+        return Err(Refusal::Record);
     }
-    let asked = fetch(bytes).event();
-    if asked.number != 0 {
-        return asked;
-    }
-    let event = asked.event;
-    let number = event.fault(rate, fade);
-    if number == 0 { asked } else { refusal(number) }
+    let event = Event::try_from(fetch(bytes))?;
+    event.fault(limits)?;
+    Ok(event)
 }

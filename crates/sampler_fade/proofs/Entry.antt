@@ -2,25 +2,20 @@
 -- The idea: 1.0 is its own cleaned value, and so is what lies from 0 to 1. Assumes nothing.
 use mathlib.Core.Path.{◌≡◌, refl, sym, ap, ◌∙◌, subst}
 use mathlib.Core.Bool.{Bool, true, false, not, ◌||◌}
-use mathlib.Core.List.{List, [], ◌∷◌}
+use mathlib.Core.List.{List}
 use Prim.Native.Nat.{ℕ, zero, suc, ◌+◌, ◌-◌, ◌^◌, ◌≤◌, ◌<◌}
-use native.Mathlib.Nat.{le_of_suc-le-suc, not-suc-le-zero, zero-lt-suc}
+use native.Mathlib.Nat.{zero-lt-suc}
 use lib.Dec.{T, ltb, ltb→lt, nltb→le}
 use lib.ListN.{length, get_or, get_or-eq_default}
 use lib.Ieee.{Float, nan, lt, le, eq, of_bits}
 use lib.Ieee.Bits.{is_true}
+use Rattle.std.proofs.lemmas.List.{get_or_default}
 use Rattle.sampler_fade.specs.Entry.{none, one, entry, cleaned_fade, fade_at, fade_in, fade_out}
 use Rattle.sampler_fade.specs.FadeRule.{FadeRule, Within, scaled}
 
--- the default does not matter inside
-get_d_any : {A : Type 0} (xs : List A) (d e : A) (i : ℕ) → i < length xs → get_or xs i d ≡ get_or xs i e
-get_d_any [] d e i h = absurd (not-suc-le-zero h)
-get_d_any (x ∷ xs) d e zero h = refl
-get_d_any (x ∷ xs) d e (suc i) h = get_d_any xs d e i (le_of_suc-le-suc h)
-
 pub inside : (table : List Float) (i : ℕ) → i < length table → fade_at table i ≡ cleaned_fade (get_or table i nan)
 unfolding fade_at
-inside table i h = ap cleaned_fade (get_d_any table one nan i h)
+inside table i h = ap cleaned_fade (get_or_default table i one nan h)
 
 one_kept : cleaned_fade one ≡ one
 unfolding cleaned_fade le of_bits

@@ -11,9 +11,9 @@ use lib.Dec.{T, leb, ltb, eqb, leb→le, ltb→lt, eqb→eq}
 use lib.ListN.{length, get_or, get_or-eq_default}
 use lib.Ieee.{binary32}
 use lib.Ieee.Fits.{and_l, and_r}
+use Rattle.std.proofs.lemmas.List.{get_or-reverse}
 use Rattle.sampler_fade.specs.FadeRule.{Within}
 use Rattle.sampler_fade.proofs.Patterns.{in_units}
-use Rattle.sampler_fade.proofs.Mirror.{get_d_reverse}
 
 -- ---- the test
 
@@ -97,13 +97,13 @@ summed xs t zero h = moved refl (sym (get_or-eq_default (0 ∷ xs) full (all (le
 summed xs t (suc k) h =
     elim (eq-or-lt_of_le (le_of_suc-le-suc h)) [
       | inl e ↦ moved (sym (get_or-eq_default xs full (le_of_eq (sym e)))) (ap (λ (n : ℕ). get_or (0 ∷ xs) n full) (nothing (length xs) k e)) ends.1
-      | inr l ↦ moved refl (get_d_reverse full xs k l ∙ ap (λ (n : ℕ). get_or (0 ∷ xs) n full) (next (length xs) k l)) (mirror xs (reverse xs) t k l)
+      | inr l ↦ moved refl (get_or-reverse xs k full l ∙ ap (λ (n : ℕ). get_or (0 ∷ xs) n full) (next (length xs) k l)) (mirror xs (reverse xs) t k l)
     ]
   where
     nothing : (n k : ℕ) → k ≡ n → 0 ≡ suc n - suc k
     nothing n k e = omega arith
 
-    next : (n k : ℕ) → k < n → suc (n - suc k) ≡ suc n - suc k
+    next : (n k : ℕ) → k < n → suc (n - 1 - k) ≡ suc n - suc k
     next n k l = omega arith
 
 pub within : (x y : ℕ) → T (sums x y) → Within (2 ^ 125) (in_units binary32 x + in_units binary32 y) (2 ^ 149)

@@ -13,7 +13,7 @@ use Rattle.sampler_event.specs.declared.Kind.{Kind}
 use Rattle.sampler_event.specs.declared.Kind.TheVariants.{Start, StartImmediate, Stop, EnableLoop, CancelLoop, CancelAll}
 use Rattle.laws.specs.Rules.{within}
 use Rattle.sampler_event.specs.Limits.{place_bad, positions_bad, loop_bad}
-use Rattle.sampler_event.proofs.Limits.{place_up}
+use Rattle.sampler_event.proofs.UpTo.{place_up}
 use Rattle.sampler_player.specs.declared.Points.{Points}
 use Rattle.sampler_player.specs.declared.Points.TheVariants.{Absent, Between}
 use Rattle.sampler_player.specs.declared.Setup.{Setup}

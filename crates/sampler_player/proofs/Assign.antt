@@ -12,8 +12,7 @@ use Rattle.sampler_voice.specs.declared.Phase.{Phase}
 use Rattle.sampler_voice.specs.declared.Phase.TheVariants.{Stopped, FadingIn, Playing, FadingOut}
 use Rattle.sampler_voice.specs.declared.Voice.{Voice}
 use Rattle.sampler_voice.specs.Voices.{silent, is_stopped, started_at, ended, ended_voice}
-use Rattle.sampler_player.specs.declared.Active.{Active}
-use Rattle.sampler_player.specs.declared.Active.TheVariants.{Neither, Number}
+use Rattle.std.specs.Prelude.{Option, Some, None}
 use Rattle.sampler_player.specs.declared.Setup.{Setup}
 use Rattle.sampler_player.specs.declared.Player.{Player}
 use Rattle.sampler_player.specs.Clock.{Clock}
@@ -32,16 +31,16 @@ stop_twice [] = refl
 stop_twice (v ∷ vs) = λ i. record { position = v.position; phase = ended_twice v.phase i } ∷ stop_twice vs i
 
 -- ---- the voice that starts stands where it was told to
-abbrev Starts : ℕ → List Voice → Active → Type 0
-Starts x vs Neither = Unit {0}
-Starts x vs (Number i) = (get_or (set vs i (started_at x)) i silent).position ≡ x
+abbrev Starts : ℕ → List Voice → Option ℕ → Type 0
+Starts x vs None = Unit {0}
+Starts x vs (Some i) = (get_or (set vs i (started_at x)) i silent).position ≡ x
 
-starts_one : (x : ℕ) (v : Voice) (vs : List Voice) (a : Active) → Starts x vs a → Starts x (v ∷ vs) (one_more a)
-starts_one x v vs Neither h = tt
-starts_one x v vs (Number i) h = h
+starts_one : (x : ℕ) (v : Voice) (vs : List Voice) (a : Option ℕ) → Starts x vs a → Starts x (v ∷ vs) (one_more a)
+starts_one x v vs None h = tt
+starts_one x v vs (Some i) h = h
 
 starts_first : (x : ℕ) (v : Voice) (vs : List Voice) (t : Bool) → Starts x (v ∷ vs) (one_more (first_stopped vs))
-    → Starts x (v ∷ vs) (cond t (Number 0) (one_more (first_stopped vs)))
+    → Starts x (v ∷ vs) (cond t (Some 0) (one_more (first_stopped vs)))
 starts_first x v vs true h = refl
 starts_first x v vs false h = h
 
@@ -50,18 +49,18 @@ starts x [] = tt
 starts x (v ∷ vs) = starts_first x v vs (is_stopped v.phase) (starts_one x v vs (first_stopped vs) (starts x vs))
 
 -- ---- a player that was stopped and started at x, and once more
-again : (x : ℕ) (p : Player) (a : Active) → first_stopped (map ended_voice p.voices) ≡ a → Starts x (map ended_voice p.voices) a
+again : (x : ℕ) (p : Player) (a : Option ℕ) → first_stopped (map ended_voice p.voices) ≡ a → Starts x (map ended_voice p.voices) a
     → cond (active_at a x (start_in a x (map ended_voice p.voices))) (voiced (start_in a x (map ended_voice p.voices)) a p)
     (begin x (stop (voiced (start_in a x (map ended_voice p.voices)) a p)))
     ≡ voiced (start_in a x (map ended_voice p.voices)) a p
 unfolding begin stop
-again x p Neither e h =
+again x p None e h =
     ap (λ (vs : List Voice). voiced (start_in (first_stopped vs) x vs) (first_stopped vs) p) (stop_twice p.voices)
-    ∙ ap (λ (a : Active). voiced (start_in a x (map ended_voice p.voices)) a p) e
-again x p (Number i) e h =
+    ∙ ap (λ (a : Option ℕ). voiced (start_in a x (map ended_voice p.voices)) a p) e
+again x p (Some i) e h =
     ap
-    (λ (t : Bool). cond t (voiced (set (map ended_voice p.voices) i (started_at x)) (Number i) p)
-    (begin x (stop (voiced (set (map ended_voice p.voices) i (started_at x)) (Number i) p))))
+    (λ (t : Bool). cond t (voiced (set (map ended_voice p.voices) i (started_at x)) (Some i) p)
+    (begin x (stop (voiced (set (map ended_voice p.voices) i (started_at x)) (Some i) p))))
     (eq-eqb (get_or (set (map ended_voice p.voices) i (started_at x)) i silent).position x h)
 
 at_on : (x : ℕ) (p : Player) (t : Bool) → active_at p.active x p.voices ≡ t → assign_at x (cond t p (begin x (stop p))) ≡ cond t p (begin x (stop p))
@@ -78,12 +77,12 @@ assign_twice k u p = at_twice (k.near u) p
 
 -- ---- what they leave: whatever doesn't look at the voices and the active one
 abbrev pub Apart : {X : Type 0} → (Player → X) → Type 0
-Apart f = (vs : List Voice) (a : Active) (p : Player) → f (voiced vs a p) ≡ f p
+Apart f = (vs : List Voice) (a : Option ℕ) (p : Player) → f (voiced vs a p) ≡ f p
 
 module _ {X : Type 0} (f : Player → X) (h : Apart f) where
   pub stop_leaves : (p : Player) → f (stop p) ≡ f p
   unfolding stop
-  stop_leaves p = h (map ended_voice p.voices) Neither p
+  stop_leaves p = h (map ended_voice p.voices) None p
 
   chosen : (t : Bool) (x : ℕ) (p : Player) → f (cond t p (begin x (stop p))) ≡ f p
   unfolding begin stop

@@ -14,7 +14,7 @@ use Rattle.laws.proofs.Minus.{Minus, above, below, parts, plus_minus, less_minus
 use Rattle.timestamp.specs.declared.Timestamp.{Timestamp}
 use Rattle.timestamp.specs.Time.{time_of, frame_near, loop_end}
 use Rattle.timestamp.specs.Answer.{fitting}
-use Rattle.sampler_event.proofs.Limits.{UpTo, within_up}
+use Rattle.sampler_event.proofs.UpTo.{UpTo, within_up}
 use Rattle.sampler_player.specs.declared.Points.{Points}
 use Rattle.sampler_player.specs.declared.Points.TheVariants.{Between}
 use Rattle.sampler_player.specs.declared.Setup.{Setup}

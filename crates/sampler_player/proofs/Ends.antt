@@ -10,8 +10,10 @@ use borrow.Author.Tests.{leb-true, leb-false, lt-ltb}
 use lib.Dec.{T, leb, ltb, lit≤}
 use lib.IntN.{ℤ, pos, nat_abs, ◌+ℤ◌}
 use lib.Signed.{mag, lt_z}
-use Rattle.laws.proofs.Tests.{yes}
-use Rattle.laws.proofs.Minus.{Minus, above, below, parts, plus_minus, lt_z_minus, nlt_z_minus}
+use Rattle.std.specs.Int.{w64}
+use Rattle.std.proofs.Common.{SFits}
+use Rattle.std.proofs.lemmas.Int.{ints}
+use Rattle.laws.proofs.Minus.{Minus, above, below, parts, plus_minus, nlt_z_minus}
 use Rattle.timestamp.specs.Time.{earlier, loop_end}
 use Rattle.timestamp.specs.Answer.{fitting}
 use Rattle.timestamp.proofs.Loop.{E-exact, E-late}
@@ -19,7 +21,7 @@ use Rattle.sampler_player.specs.declared.Setup.{Setup}
 use Rattle.sampler_player.specs.Clock.{clock_at}
 use Rattle.sampler_player.specs.Pieces.{nearer}
 use Rattle.sampler_player.specs.inner.Stroke.{last_stop}
-use Rattle.sampler_player.proofs.Sized.{below_size, sum_size, fits_size}
+use Rattle.sampler_player.proofs.Sized.{below_size}
 
 -- ---- the earlier of two times
 chosen : (a b : ℤ) (t : Bool) → lt_z a b ≡ t → earlier a b ≡ cond t a b
@@ -36,21 +38,10 @@ less x y a b c d h k l = go (lt_z x y) (nlt_z_minus x y a b c d h k)
 pub late : (e : ℤ) (a b : ℕ) → Minus e a b → b + (2 ^ 48 + 2 ^ 47) < a → earlier last_stop e ≡ last_stop
 late e a b m h = chosen last_stop e true (less last_stop e (2 ^ 48 + 2 ^ 47) 0 a b refl m (omega arith))
 
-pub sum_late : (first : ℤ) (n : ℕ) → nat_abs first ≤ 2 ^ 42 → 2 ^ 49 < n → earlier last_stop (first +ℤ pos n) ≡ last_stop
-sum_late first n h k =
-    let u = below_size first in
-    late (first +ℤ pos n) (above first + n) (below first + 0) (plus_minus first (pos n) (above first) (below first) n 0 (parts first) (add-zero n)) (omega arith)
-
 -- a stop before the last: the earlier of it and E, and of it and E up to the last
 module _ (t : ℤ) (soon : lt_z t last_stop ≡ true) where
   later_still : (e : ℤ) → lt_z last_stop e ≡ true → lt_z t e ≡ true
-  later_still e h =
-      less t e (above t) (below t) (above e) (below e) (parts t) (parts e)
-      (join (lt_z_minus t last_stop (above t) (below t) (2 ^ 48 + 2 ^ 47) 0 (parts t) refl (yes soon))
-      (lt_z_minus last_stop e (2 ^ 48 + 2 ^ 47) 0 (above e) (below e) refl (parts e) (yes h)))
-    where
-      join : above t + 0 < 2 ^ 48 + 2 ^ 47 + below t → 2 ^ 48 + 2 ^ 47 + below e < above e + 0 → above t + below e < above e + below t
-      join p q = omega arith
+  later_still e h = grind (arith, ints)
 
   up_to_lem : (e : ℤ) → earlier t (earlier last_stop e) ≡ earlier t e
   up_to_lem e = go (lt_z last_stop e) refl
@@ -68,8 +59,7 @@ module _ (R : ℕ) (s : Setup) (r : 0 < R) (r' : R < 2 ^ 18) (first : ℤ) (b c 
   pub loop_exact : b * c + nat_abs first ≤ 2 ^ 49 → fitting (loop_end R first (pos b) c) ≡ some (first +ℤ pos (b * c))
   loop_exact h =
       let z = first +ℤ pos (b * c) in
-      let k = sum_size first (pos (b * c)) in
-      let f = fits_size z (omega arith) in
+      let f : SFits w64 z = omega (arith, ints) in
       ap fitting (E-exact R first b c r r' (omega arith) (omega arith) h) ∙ ap (λ (t : Bool). cond t (some z) none) (lt-ltb (mag z) (2 ^ 63) f.sfits)
 
   beyond : 2 ^ 49 < b * c + nat_abs first → earlier last_stop (first +ℤ pos (b * c)) ≡ nearer (clock_at R) s last_stop (fitting (loop_end R first (pos b) c))

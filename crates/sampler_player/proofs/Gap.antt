@@ -1,12 +1,15 @@
 -- The interval in whole numbers, by the gap from the position to E: what the code works out is the definition's.
 -- The idea: position and end as differences with one subtrahend (interval-int), of which the gap is the difference. Assumes nothing.
 use Prim.Native.Nat.{ℕ, ◌+◌, ◌-◌, ◌*◌, ◌/◌, ◌^◌, ◌≤◌, ◌<◌, min}
-use native.Mathlib.Nat.{add-zero}
+use native.Mathlib.Nat.{add-zero, le_of_lt, mul-le-mul}
 use native.Mathlib.Omega.{arith}
-use mathlib.Core.Path.{◌≡◌, refl, sym, ap, ◌∙◌}
+use mathlib.Core.Path.{◌≡◌, refl, sym, ap, ◌∙◌, subst}
 use mathlib.Core.Bool.{Bool, true, false, cond}
 use borrow.Author.Tests.{le-leb, lt-leb}
 use lib.IntN.{ℤ, pos, nat_abs, ◌+ℤ◌, ◌-ℤ◌}
+use Rattle.std.specs.Int.{w64}
+use Rattle.std.proofs.Common.{SFits}
+use Rattle.std.proofs.lemmas.Int.{ints}
 use lib.Signed.{lt_z}
 use Rattle.laws.proofs.Tests.{yes, no}
 use Rattle.laws.proofs.Minus.{Minus, above, below, parts, shift, plus_minus, less_minus, lt_z_minus, nlt_z_minus}
@@ -15,10 +18,15 @@ use Rattle.timestamp.proofs.Time.{T-once, T-near}
 use Rattle.timestamp.proofs.Frames.{short}
 use Rattle.timestamp.proofs.Interval.{interval_int, frames_to}
 use lib.Ieee.Nearest.{closest}
-use Rattle.sampler_player.specs.Clock.{not_negative}
+use Rattle.sampler_player.specs.declared.Setup.{Setup}
+use Rattle.sampler_player.specs.declared.Player.{Player}
+use Rattle.sampler_player.specs.Clock.{clock_at, not_negative}
+use Rattle.sampler_player.specs.Pieces.{end_of, nearer, interval}
+use Rattle.sampler_player.specs.inner.Kept.{kept}
 use Rattle.sampler_player.specs.inner.Stroke.{last_stop}
-use Rattle.sampler_player.proofs.Sized.{below_size, above_minus}
-use Rattle.sampler_player.proofs.Ends.{less}
+use Rattle.sampler_player.proofs.Sized.{below_size, above_minus, stands_size}
+use Rattle.sampler_player.proofs.Kept.{Stands, stands, opened}
+use Rattle.sampler_player.proofs.Ends.{less, sees}
 
 -- the interval from position P to the end E, of l frames, by the gap between the two
 module _ (R l : ℕ) (lo : 8000 ≤ R) (hi : R ≤ 96000) (few : l ≤ 4096) (P E : ℤ) (ahead : above P ≤ 2 ^ 48 + 2 ^ 34) (behind : below P ≤ 2 ^ 20) (size : nat_abs E ≤ 2 ^ 49 + 2 ^ 42) where
@@ -81,3 +89,41 @@ module _ (R l : ℕ) (lo : 8000 ≤ R) (hi : R ≤ 96000) (few : l ≤ 4096) (P 
       let s = T-small in
       ap (λ (z : ℤ). lt_z (P +ℤ z) last_stop) T-is
       ∙ less (P +ℤ pos t) last_stop (above P + t) (below P + 0) (2 ^ 48 + 2 ^ 47) 0 (plus_minus P (pos t) (above P) (below P) t 0 (parts P) (add-zero t)) refl (omega arith)
+
+-- what a call of the code's interval asks, and what it is told of the end E
+pub record Asked (s : Setup) (l : ℕ) (p : Player) (E : ℤ) : Type 0 where
+  pub slow : 8000 ≤ s.rate
+  pub fast : s.rate ≤ 96000
+  pub few : l ≤ 4096
+  pub is : kept s l p ≡ true
+  pub value : earlier last_stop E ≡ nearer (clock_at s.rate) s last_stop (end_of (clock_at s.rate) s p p.points)
+  pub bound : nat_abs E ≤ 2 ^ 49 + 2 ^ 42
+
+module _ {s : Setup} {l : ℕ} {p : Player} {E : ℤ} (a : Asked s l p E) where
+  here : Stands l p.position.bits
+  here = stands l p.position.bits a.few (opened s l p a.is).position
+
+  ahead : above p.position.bits ≤ 2 ^ 48 + 2 ^ 34
+  ahead = let h = here.high in omega (arith, h)
+
+  pub gap_fits : SFits w64 (E -ℤ p.position.bits)
+  gap_fits = let e = a.bound in let h = stands_size l p.position.bits here in omega (arith, ints, e, h)
+
+  -- what the definition sees of E
+  seen : interval (clock_at s.rate) s p l ≡ min (frame_near s.rate (earlier (p.position.bits +ℤ time_of s.rate l) E -ℤ p.position.bits)) l
+  unfolding interval
+  seen =
+      ap (λ (z : ℤ). min (frame_near s.rate (z -ℤ p.position.bits)) l)
+      (sees (p.position.bits +ℤ time_of s.rate l) (stop_soon s.rate l a.slow a.fast a.few p.position.bits E ahead here.low a.bound) s.rate s
+      (end_of (clock_at s.rate) s p p.points) E a.value)
+
+  pub asked_small : lt_z (E -ℤ p.position.bits) (time_of s.rate l) ≡ true → (u : ℕ) → u ≡ not_negative (E -ℤ p.position.bits) → u * s.rate ≤ 2 ^ 35 * 96000
+  asked_small h u e =
+      mul-le-mul (subst (λ (n : ℕ). n ≤ 2 ^ 35) (sym e) (le_of_lt (gap_small s.rate l a.slow a.fast a.few p.position.bits E ahead here.low a.bound h))) a.fast
+
+  pub asked_before : lt_z (E -ℤ p.position.bits) (time_of s.rate l) ≡ true
+      → min ((2 * (not_negative (E -ℤ p.position.bits) * s.rate) + 2 ^ 32) / 2 ^ 33) l ≡ interval (clock_at s.rate) s p l
+  asked_before h = before_end s.rate l a.slow a.fast a.few p.position.bits E ahead here.low a.bound h ∙ sym seen
+
+  pub asked_rest : lt_z (E -ℤ p.position.bits) (time_of s.rate l) ≡ false → l ≡ interval (clock_at s.rate) s p l
+  asked_rest h = to_end s.rate l a.slow a.fast a.few p.position.bits E ahead here.low a.bound h ∙ sym seen

@@ -9,8 +9,7 @@ use Rattle.sampler_voice.specs.declared.Channels.{Channels}
 use Rattle.sampler_voice.specs.declared.Voice.{Voice}
 use Rattle.sampler_voice.specs.Voices.{is_stopped, is_held, ended_voice, lent, frames, mix}
 use Rattle.sampler_voice.proofs.Phases.{started_held, ended_held, frames_held}
-use Rattle.sampler_player.specs.declared.Active.{Active}
-use Rattle.sampler_player.specs.declared.Active.TheVariants.{Neither, Number}
+use Rattle.std.specs.Prelude.{Option, Some, None}
 use Rattle.sampler_player.specs.Assign.{one_more, first_stopped, start_in}
 use Rattle.sampler_player.specs.Sound.{none_held, only_held, active_good}
 use Rattle.laws.proofs.Tests.{both, one_of, other_of}
@@ -21,14 +20,14 @@ stopped_none [] = refl
 stopped_none (v ∷ vs) = both (ap not (ended_held v.phase)) (stopped_none vs)
 
 -- ---- a start, where none is held
-begins_one : (x : ℕ) (v : Voice) (vs : List Voice) (a : Active) → not (is_held v.phase) ≡ true → none_held vs ≡ true → active_good a (start_in a x vs) ≡ true
+begins_one : (x : ℕ) (v : Voice) (vs : List Voice) (a : Option ℕ) → not (is_held v.phase) ≡ true → none_held vs ≡ true → active_good a (start_in a x vs) ≡ true
     → active_good (one_more a) (start_in (one_more a) x (v ∷ vs)) ≡ true
-begins_one x v vs Neither p q h = both p q
-begins_one x v vs (Number i) p q h = both p h
+begins_one x v vs None p q h = both p q
+begins_one x v vs (Some i) p q h = both p h
 
 begins_first : (x : ℕ) (v : Voice) (vs : List Voice) (t : Bool) → none_held vs ≡ true
     → active_good (one_more (first_stopped vs)) (start_in (one_more (first_stopped vs)) x (v ∷ vs)) ≡ true
-    → active_good (cond t (Number 0) (one_more (first_stopped vs))) (start_in (cond t (Number 0) (one_more (first_stopped vs))) x (v ∷ vs)) ≡ true
+    → active_good (cond t (Some 0) (one_more (first_stopped vs))) (start_in (cond t (Some 0) (one_more (first_stopped vs))) x (v ∷ vs)) ≡ true
 begins_first x v vs true q h = both (started_held x) q
 begins_first x v vs false q h = h
 
@@ -58,6 +57,6 @@ module _ (rec : List Float) (rn : ℕ) (fade : List Float) (n : ℕ) (ch : Chann
       let h = frames rec rn fade n ch j k (lent v out) in
       λ i. not (frames_held rec rn fade n ch j k (lent v out) i) && mix_only a j k vs h.out i
 
-  pub mix_active : (a : Active) (j k : ℕ) (vs : List Voice) (out : List Float) → active_good a (mix rec rn fade n ch j k vs out).voices ≡ active_good a vs
-  mix_active Neither j k vs out = mix_none j k vs out
-  mix_active (Number i) j k vs out = mix_only i j k vs out
+  pub mix_active : (a : Option ℕ) (j k : ℕ) (vs : List Voice) (out : List Float) → active_good a (mix rec rn fade n ch j k vs out).voices ≡ active_good a vs
+  mix_active None j k vs out = mix_none j k vs out
+  mix_active (Some i) j k vs out = mix_only i j k vs out

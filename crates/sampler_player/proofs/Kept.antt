@@ -14,7 +14,7 @@ use Rattle.laws.proofs.Minus.{Minus, above, below}
 use Rattle.timestamp.specs.declared.Timestamp.{Timestamp}
 use Rattle.laws.specs.Rules.{within}
 use Rattle.sampler_event.specs.Limits.{place_bad, loop_short}
-use Rattle.sampler_event.proofs.Limits.{place_up, short_back, short_on}
+use Rattle.sampler_event.proofs.UpTo.{place_up, short_back, short_on}
 use Rattle.sampler_player.specs.declared.Points.TheVariants.{Between}
 use Rattle.sampler_player.specs.declared.Setup.{Setup}
 use Rattle.sampler_player.specs.declared.Player.{Player}

@@ -25,9 +25,9 @@ pub mod NoNan
 pub mod Trace
 pub mod Applied
 pub mod Sound
--- How the code meets the definitions. Two: a player's two voices. Sized: sums of times that fit. Ends, Gap: E and the interval in whole numbers. Span: a loop in numbers.
+-- How the code meets the definitions. First: the first stopped voice. Sized: sums of times that fit. Ends, Gap: E and the interval in whole numbers. Span: a loop in numbers.
 -- Turn: one turn of the piece loop. Counting: a segment's pieces count on from those before it.
-pub mod Two
+pub mod First
 pub mod Sized
 pub mod Ends
 pub mod Gap

@@ -21,8 +21,6 @@ use Rattle.sampler_player.proofs.Sized.{stands_size}
 -- ---- the sizes
 pub record Span (s : Setup) (from end : Timestamp) (p : Player) : Type 0 where
   pub numbers : Looping s 0 from end p
-  pub from_size : nat_abs from.bits ≤ 2 ^ 42
-  pub end_size : nat_abs end.bits ≤ 2 ^ 42
   pub first_size : nat_abs (end.bits -ℤ p.start.bits) ≤ 2 ^ 42
   pub length : end.bits -ℤ from.bits ≡ pos (loop_length from end)
   pub some_length : 0 < loop_length from end
@@ -34,14 +32,10 @@ module _ (s : Setup) (from end : Timestamp) (p : Player) (i : Looping s 0 from e
   sizes =
       let e = i.loop.early in
       let l = length_is s 0 from end p i in
-      let a = ap nat_abs i.loop.start in
-      let b = ap nat_abs i.loop.finish in
       let finish = i.loop.len + i.loop.a in
       let st = nat_abs p.start.bits in
       record {
         numbers = i;
-        from_size = omega (arith, a, e);
-        end_size = omega (arith, b, e);
         first_size =
             subst₂ (λ (y z : ℤ). nat_abs (y -ℤ z) ≤ 2 ^ 42) (sym i.loop.finish) (sym i.begun.is)
             (size_minus (pos finish -ℤ pos st) finish st (2 ^ 42) e i.begun.most (nat_minus finish st));

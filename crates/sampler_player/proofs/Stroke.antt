@@ -13,7 +13,7 @@ use lib.IntN.{ℤ, pos, ◌+ℤ◌, ◌-ℤ◌}
 use lib.Signed.{lt_z}
 use Rattle.timestamp.specs.declared.Timestamp.{Timestamp}
 use Rattle.sampler_voice.specs.declared.Voice.{Voice}
-use Rattle.sampler_player.specs.declared.Active.{Active}
+use Rattle.std.specs.Prelude.{Option as Maybe}
 use Rattle.sampler_player.specs.declared.Points.{Points}
 use Rattle.sampler_player.specs.declared.Points.TheVariants.{Absent, Between}
 use Rattle.sampler_player.specs.declared.Setup.{Setup}
@@ -30,7 +30,7 @@ use Rattle.sampler_player.proofs.Target.{target_more, target_below, target_there
 
 -- ---- an interval looks at no voice
 module _ (k : Clock) (s : Setup) where
-  end_apart : (vs : List Voice) (a : Active) (p : Player) (y : Points) → end_of k s (voiced vs a p) y ≡ end_of k s p y
+  end_apart : (vs : List Voice) (a : Maybe ℕ) (p : Player) (y : Points) → end_of k s (voiced vs a p) y ≡ end_of k s p y
   unfolding end_of
   end_apart vs a p Absent = refl
   end_apart vs a p (Between from end) = refl

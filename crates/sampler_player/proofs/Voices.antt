@@ -12,8 +12,7 @@ use Rattle.sampler_voice.specs.declared.Channels.{Channels}
 use Rattle.sampler_voice.specs.declared.Voice.{Voice}
 use Rattle.sampler_voice.specs.Voices.{silent, is_stopped, fade_good, started_at, ended_voice, lent, frames, mix}
 use Rattle.sampler_voice.specs.inner.Room.{Ahead}
-use Rattle.sampler_player.specs.declared.Active.{Active}
-use Rattle.sampler_player.specs.declared.Active.TheVariants.{Neither, Number}
+use Rattle.std.specs.Prelude.{Option, Some, None}
 use Rattle.sampler_player.specs.Assign.{start_in}
 use Rattle.sampler_player.specs.inner.Kept.{voices_kept}
 use Rattle.laws.proofs.Tests.{both, one_of, other_of}
@@ -45,9 +44,9 @@ set_voices F x u [] i l m h = refl
 set_voices F x u (v ∷ vs) zero l m h = whole F x (started_at u) vs (started_voiced F x u l m) (parts F x v vs h).1
 set_voices F x u (v ∷ vs) (suc i) l m h = let k = parts F x v vs h in whole F x v (set vs i (started_at u)) k.0 (set_voices F x u vs i l m k.1)
 
-pub started_voices : (F x u : ℕ) (vs : List Voice) (a : Active) → x ≤ 4096 → u ≤ 2 ^ 39 → voices_kept F x vs ≡ true → voices_kept F x (start_in a u vs) ≡ true
-started_voices F x u vs Neither l m h = h
-started_voices F x u vs (Number i) l m h = set_voices F x u vs i l m h
+pub started_voices : (F x u : ℕ) (vs : List Voice) (a : Option ℕ) → x ≤ 4096 → u ≤ 2 ^ 39 → voices_kept F x vs ≡ true → voices_kept F x (start_in a u vs) ≡ true
+started_voices F x u vs None l m h = h
+started_voices F x u vs (Some i) l m h = set_voices F x u vs i l m h
 
 -- "voice positions at most 2^40"
 most : (F x : ℕ) (vs : List Voice) (i : ℕ) → voices_kept F x vs ≡ true → (get_or vs i silent).position ≤ 2 ^ 40

@@ -6,6 +6,7 @@ use Rattle.timestamp.specs.declared.Timestamp.{Timestamp}
 use Rattle.sampler_voice.specs.declared.Channels.{Channels}
 use Rattle.sampler_voice.specs.declared.Voice.{Voice}
 use Rattle.sampler_voice.specs.Voices.{mix}
+use Rattle.sampler_player.specs.declared.Lent.{Lent as Borrowed}
 use Rattle.sampler_player.specs.declared.Points.{Points}
 use Rattle.sampler_player.specs.declared.Points.TheVariants.{Absent, Between}
 use Rattle.sampler_player.specs.declared.Setup.{Setup}
@@ -23,6 +24,10 @@ pub record Lent : Type 0 where
 
 abbrev pub lending : List Float → List Float → ℕ → ℕ → Lent
 lending rec table channels block = record { recording = rec; table = table; channels = channels; block = block }
+
+-- the same of the code's value, which borrows the recording and the table
+abbrev pub lent_by : Borrowed → Lent
+lent_by b = lending b.recording.now b.table.now b.channels b.block
 
 -- how many channels the recording has, and the output
 abbrev pub sides : Setup → Lent → Channels

@@ -1,12 +1,10 @@
 -- What number 8 and "A leg is damaged unless" (14) ask of what plays. Definitions only.
-use Rattle.std.specs.Prelude.{ℕ, zero, suc, ◌^◌, Bool, true, false, ◌&&◌, ◌||◌, not, List, [], ◌∷◌, leb, ltb, pos, neg_ℤ}
+use Rattle.std.specs.Prelude.{ℕ, zero, suc, ◌^◌, Bool, true, false, ◌&&◌, ◌||◌, not, List, [], ◌∷◌, leb, ltb, pos, neg_ℤ, Option, Some, None}
 use Rattle.std.specs.Int.Signed.{lt_z}
 use Rattle.sampler_voice.specs.declared.Voice.{Voice}
 use Rattle.sampler_voice.specs.Voices.{is_stopped, is_held, fade_good}
 use Rattle.laws.specs.Rules.{within}
 use Rattle.sampler_event.specs.Limits.{place_bad, loop_short}
-use Rattle.sampler_player.specs.declared.Active.{Active}
-use Rattle.sampler_player.specs.declared.Active.TheVariants.{Neither, Number}
 use Rattle.sampler_player.specs.declared.Points.{Points}
 use Rattle.sampler_player.specs.declared.Points.TheVariants.{Absent, Between}
 use Rattle.sampler_player.specs.declared.Setup.{Setup}
@@ -32,9 +30,9 @@ only_held i [] = false
 only_held zero (v ∷ vs) = is_held v.phase && none_held vs
 only_held (suc i) (v ∷ vs) = not (is_held v.phase) && only_held i vs
 
-abbrev pub active_good : Active → List Voice → Bool
-active_good Neither vs = none_held vs
-active_good (Number i) vs = only_held i vs
+abbrev pub active_good : Option ℕ → List Voice → Bool
+active_good None vs = none_held vs
+active_good (Some i) vs = only_held i vs
 
 -- "fade positions are below F, or 0 when F is 0; voice positions at most 2^40"
 abbrev pub voices_good : ℕ → List Voice → Bool

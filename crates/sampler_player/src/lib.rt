@@ -2,34 +2,32 @@
 // the leg stands.
 #![tactic(auto)]
 
-ghost use Rattle.std.specs.Prelude.{◌≡◌, false, [], ◌∷◌, ◌≤◌, ◌^◌, nat_abs, ◌+ℤ◌};
+ghost use Rattle.std.specs.Prelude.{◌≡◌, false, ◌≤◌, ◌^◌, nat_abs, ◌+ℤ◌};
 ghost use Rattle.sampler_event.specs.Limits.{place_bad, positions_bad};
 ghost use Rattle.sampler_player.specs.Clock.{clock_at};
-ghost use Rattle.sampler_player.specs.Assign.{quiet, voiced, stop, begin, active_at, assign_at, assign};
-ghost use Rattle.sampler_player.specs.Events.{pointed, begun, apply};
+ghost use Rattle.sampler_player.specs.Assign.{quiet, stop, begin, active_at, assign_at, assign};
+ghost use Rattle.sampler_player.specs.Events.{begun, apply};
 
+pub use rated::Rated;
 use sampler_event::Kind;
 use sampler_voice::Voice;
 use times::sum;
 use timestamp::{Timestamp, frame_near};
 
 mod pieces;
+mod rated;
 mod times;
+mod turns;
 
-#[derive(Clone, Copy)]
-pub enum Active {
-    Neither,
-    Number(usize),
-}
-
-#[derive(Clone, Copy)]
+// The loop points: document 01 would have an enum of their own in the place of an `Option`.
+#[derive(Clone, Copy, Debug, PartialEq, Eq)]
 pub enum Points {
     Absent,
     Between(Timestamp, Timestamp),
 }
 
 // The four numbers that a leg is made from.
-#[derive(Clone, Copy)]
+#[derive(Clone, Copy, Debug, PartialEq, Eq)]
 pub struct Setup {
     pub rate: usize,
     pub channels: usize,
@@ -37,18 +35,29 @@ pub struct Setup {
     pub fade: usize,
 }
 
-#[derive(Clone, Copy)]
+#[derive(Clone, Copy, Debug, PartialEq, Eq)]
 pub struct Player {
     pub voices: [Voice; 2],
-    pub active: Active,
+    pub active: Option<usize>,
     pub points: Points,
     pub position: Timestamp,
     pub start: Timestamp,
     pub completed: usize,
 }
 
-// What a segment leaves, and how many pieces it rendered.
+// What a render is lent: the recording, the fade table, how many channels the output has, and how many
+// frames the block has.
 #[derive(Clone, Copy)]
+pub struct Lent<'a> {
+    pub recording: &'a [f32],
+    pub table: &'a [f32],
+    pub channels: usize,
+    pub block: usize,
+}
+
+// What a segment leaves, and how many pieces it rendered.
+// A leg's `Rendered` is alike: one type for both, with a parameter, would name neither.
+#[derive(Clone, Copy, Debug, PartialEq, Eq)]
 pub struct Played {
     pub player: Player,
     pub pieces: usize,
@@ -58,20 +67,20 @@ impl Player {
     pub fn quiet() -> Player
         ensures { result ≡ quiet }
     {
-        let silent = Voice::default();
-        let zero = Timestamp::zero();
-        let voices = [silent, silent];
         Player {
-            voices,
-            active: Active::Neither,
+            voices: [Voice::default(); 2],
+            active: None,
             points: Points::Absent,
-            position: zero,
-            start: zero,
+            position: Timestamp::zero(),
+            start: Timestamp::zero(),
             completed: 0,
         }
     }
 
-    // What an event does; delay is the current time less the event's.
+    // What an event does; delay is the current time less the event's. It asks less of the rate than a Rate has,
+    // so the rate stays a number. A delay within 2^49, here and in `start`, is a difference of two times that the
+    // block has worked out: a type for it would be made to be taken apart at once.
+    #[tactic(auto, unfolding(crate::specs::Events::apply))]
     pub fn apply(self, kind: Kind, delay: Timestamp, rate: usize) -> Player
         requires fast { rate ≤ 96000 }
         requires positions_good { positions_bad kind ≡ false }
@@ -82,26 +91,18 @@ impl Player {
             Kind::StartImmediate => self.start(Timestamp::zero(), Timestamp::zero(), rate),
             Kind::Start(position) => self.start(position, delay, rate),
             Kind::Stop => self.stop(),
-            Kind::EnableLoop(from, end) => self.with_points(Points::Between(from, end)),
-            Kind::CancelLoop => self.with_points(Points::Absent),
-            Kind::CancelAll => self.stop().with_points(Points::Absent),
-        }
-    }
-
-    fn with_points(self, points: Points) -> Player
-        ensures { result ≡ pointed points self }
-    {
-        let voices = self.voices;
-        let active = self.active;
-        let position = self.position;
-        let start = self.start;
-        Player {
-            voices,
-            active,
-            points,
-            position,
-            start,
-            completed: self.completed,
+            Kind::EnableLoop(from, end) => Player {
+                points: Points::Between(from, end),
+                ..self
+            },
+            Kind::CancelLoop => Player {
+                points: Points::Absent,
+                ..self
+            },
+            Kind::CancelAll => Player {
+                points: Points::Absent,
+                ..self.stop()
+            },
         }
     }
 
@@ -109,17 +110,9 @@ impl Player {
     fn active_at(self, v: usize) -> bool
         ensures { result ≡ active_at self.active v self.voices }
     {
-        let active = self.active;
-        match active {
-            Active::Neither => false,
-            Active::Number(i) => {
-                if i < 2 {
-                    let voice = self.voices[i];
-                    voice.get_position() == v
-                } else {
-                    0 == v
-                }
-            }
+        match self.active {
+            None => false,
+            Some(i) => self.voices.get(i).map_or(0, |voice| voice.get_position()) == v,
         }
     }
 
@@ -127,35 +120,20 @@ impl Player {
     fn begin(self, v: usize) -> Player
         ensures { result ≡ begin v self }
     {
-        let a = self.voices[0];
-        let b = self.voices[1];
-        if a.is_stopped() {
-            return self.with_voices(a.start_from_position(v), b, Active::Number(0));
+        let active = self.voices.iter().position(|voice| voice.is_stopped());
+        let mut voices = self.voices;
+        if let Some(i) = active {
+            voices[i] = voices[i].start_from_position(v);
         }
-        if b.is_stopped() {
-            return self.with_voices(a, b.start_from_position(v), Active::Number(1));
-        }
-        self.with_voices(a, b, Active::Neither)
-    }
-
-    fn with_voices(self, a: Voice, b: Voice, active: Active) -> Player
-        ensures { result ≡ voiced (a ∷ b ∷ []) active self }
-    {
-        let voices = [a, b];
-        let points = self.points;
-        let position = self.position;
-        let start = self.start;
         Player {
             voices,
             active,
-            points,
-            position,
-            start,
-            completed: self.completed,
+            ..self
         }
     }
 
     // v is the frame nearest to the time that the voice is assigned at.
+    #[tactic(auto, unfolding(crate::specs::Assign::assign_at))]
     pub fn assign_voice(self, v: usize) -> Player
         ensures { result ≡ assign_at v self }
     {
@@ -171,26 +149,21 @@ impl Player {
         requires delay_bound { nat_abs delay.bits ≤ 2 ^ 49 }
         ensures { result ≡ begun from delay.bits (assign (clock_at rate) (from.bits +ℤ delay.bits) self) }
     {
-        let at = sum(from, delay);
-        let assigned = self.assign_voice(frame_near(at, rate));
-        let voices = assigned.voices;
-        let active = assigned.active;
-        let points = assigned.points;
         Player {
-            voices,
-            active,
-            points,
             position: delay,
             start: from,
             completed: 0,
+            ..self.assign_voice(frame_near(sum(from, delay), rate))
         }
     }
 
     pub fn stop(self) -> Player
         ensures { result ≡ stop self }
     {
-        let a = self.voices[0];
-        let b = self.voices[1];
-        self.with_voices(a.stop(), b.stop(), Active::Neither)
+        Player {
+            voices: self.voices.map(|voice| voice.stop()),
+            active: None,
+            ..self
+        }
     }
 }

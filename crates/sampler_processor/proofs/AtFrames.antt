@@ -18,7 +18,7 @@ use Rattle.laws.proofs.Minus.{Minus, nat_minus, neg_minus, nlt_z_minus}
 use Rattle.timestamp.proofs.Drift.{Drift}
 use Rattle.timestamp.proofs.Event.{event_delay}
 use Rattle.sampler_event.specs.declared.Event.{Event}
-use Rattle.sampler_event.proofs.Limits.{within_up}
+use Rattle.sampler_event.proofs.UpTo.{within_up}
 use Rattle.event_processor.specs.Queue.{pending, in_order}
 use Rattle.event_processor.proofs.Front.{rest_order}
 use Rattle.event_processor.proofs.Ordered.{Ordered, ordered}

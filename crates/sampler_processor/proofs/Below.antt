@@ -12,8 +12,7 @@ use lib.Signed.{lt_z}
 use Rattle.sampler_event.specs.declared.Event.{Event}
 use Rattle.sampler_event.specs.Limits.{admissible}
 use Rattle.event_processor.specs.declared.Queue.{Queue}
-use Rattle.event_processor.specs.declared.First.{First}
-use Rattle.event_processor.specs.declared.First.TheVariants.{Nothing, Due}
+use Rattle.std.specs.Prelude.{Option, None, Some}
 use Rattle.event_processor.specs.Queue.{pending, without, in_order, each}
 use Rattle.event_processor.proofs.Front.{rest_order, rest_each, none_below}
 use Rattle.event_processor.proofs.Pending.{pending_without}
@@ -35,7 +34,7 @@ module _ (end : ℤ) where
       (rw t i.0, rw t (ap (λ (l : List Event). e ∷ l) i.1))
 
   pub rest_above : (e : Event) (es : List Event) → in_order (e ∷ es) ≡ true → lt_z e.time.bits end ≡ false → (below end (e ∷ es) ≡ []) × (not_below end (e ∷ es) ≡ e ∷ es)
-  rest_above e es o h = none_of (e ∷ es) (none_below end (e ∷ es) o (ap (λ (b : Bool). cond {A = First} b (Due e) Nothing) h))
+  rest_above e es o h = none_of (e ∷ es) (none_below end (e ∷ es) o (ap (λ (b : Bool). cond {A = Option Event} b (Some e) None) h))
 
   -- and of those after it
   pub rest_none : (e : Event) (es : List Event) → in_order (e ∷ es) ≡ true → lt_z e.time.bits end ≡ false → below end es ≡ []

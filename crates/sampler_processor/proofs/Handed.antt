@@ -11,7 +11,7 @@ use lib.IntN.{ℤ, pos, nat_abs}
 use lib.ListN.{length}
 use lib.Ieee.{Float}
 use Rattle.laws.specs.Rules.{first_broken, within}
-use Rattle.sampler_event.proofs.Limits.{within_up}
+use Rattle.sampler_event.proofs.UpTo.{within_up}
 use Rattle.event_processor.specs.Queue.{pending}
 use Rattle.event_processor.proofs.Ordered.{ordered}
 use Rattle.sampler_player.specs.Pieces.{Lent}

@@ -7,9 +7,8 @@ use mathlib.Core.List.{List}
 use borrow.Author.Tests.{eqb-true}
 use lib.Dec.{eqb}
 use Rattle.sampler_event.specs.declared.Event.{Event}
-use Rattle.sampler_event.specs.declared.EventAnswer.{EventAnswer}
+use Rattle.sampler_event.specs.Command.{EventAnswer, command_answer}
 use Rattle.sampler_event.specs.Limits.{admissible}
-use Rattle.sampler_event.specs.Command.{command_answer}
 use Rattle.sampler_event.proofs.Admissible.{taken_admissible}
 use Rattle.event_processor.specs.Queue.{received}
 use Rattle.event_processor.proofs.Kept.{received_order, received_each, received_count}

@@ -5,10 +5,9 @@ pub mod Kept
 pub mod Refused
 pub mod Admitted
 pub mod Settled
--- Sizes: what the kept sizes bound. Pairs: which of two voices alone is held. Waiting: the queue's test along its array. Output: rule 6 along a slice. Answers: what making and a command
+-- Sizes: what the kept sizes bound, and that making refuses the others. Waiting: the queue's test along what waits. Output: rule 6 along a slice. Answers: what making and a command
 -- answer, by their parts.
 pub mod Sizes
-pub mod Pairs
 pub mod Waiting
 pub mod Output
 pub mod Answers

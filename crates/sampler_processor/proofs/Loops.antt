@@ -1,5 +1,5 @@
 -- The block's loop as the code has it: what it starts from, what an event that is due is given, and what the loop's end leaves.
--- The idea: it carries a `Turn` from a start that is a natural number, with what is lent, the block's end and the output of now. Assumes nothing.
+-- The idea: it carries a `Turn` from a start that is a natural number, with the block's end and the output of now. Assumes nothing.
 use mathlib.Core.Path.{◌≡◌, sym, ap, ◌∙◌, subst}
 use mathlib.Core.Bool.{true}
 use mathlib.Core.List.{List}
@@ -13,53 +13,33 @@ use Rattle.laws.specs.Rules.{within}
 use Rattle.timestamp.specs.declared.Timestamp.{Timestamp}
 use Rattle.sampler_event.specs.declared.Event.{Event}
 use Rattle.event_processor.specs.declared.Queue.{Queue}
-use Rattle.event_processor.specs.declared.First.TheVariants.{Nothing, Due}
+use Rattle.std.specs.Prelude.{None, Some}
 use Rattle.event_processor.specs.Queue.{pending, first_before, without}
 use Rattle.sampler_player.specs.declared.Setup.{Setup}
 use Rattle.sampler_player.specs.declared.Player.{Player}
 use Rattle.sampler_player.specs.Pieces.{Lent}
 use Rattle.sampler_player.specs.inner.Kept.{kept}
-use Rattle.sampler_player.specs.inner.Lending.{Ready}
 use Rattle.sampler_processor.specs.declared.block.Stand.{Stand}
 use Rattle.sampler_processor.specs.Numbers.{queue_good}
 use Rattle.sampler_processor.specs.Block.{Running, Ended, opening, block_end, up_to, past, block}
-use Rattle.sampler_processor.specs.inner.Stands.{running, Reaches, left_of}
+use Rattle.sampler_processor.specs.inner.Stands.{Lends, running, Reaches, left_of}
 use Rattle.sampler_processor.proofs.Times.{up_to_lem, up_within}
 use Rattle.sampler_processor.proofs.Turns.{Turn, turn_first, turn_due, turn_last, now_up, pieces_few}
 
--- the lent parts with another output of the same length
-same_ready : (s : Setup) (b : Lent) (out₀ out : List Float) → Ready s b out₀ → length out ≡ length out₀ → Ready s b out
-same_ready s b out₀ out z e =
-    record {
-      slow = z.slow;
-      fast = z.fast;
-      one = z.one;
-      two = z.two;
-      short = z.short;
-      one_out = z.one_out;
-      two_out = z.two_out;
-      block = z.block;
-      recording = z.recording;
-      table = z.table;
-      out = e ∙ z.out;
-    }
-
 -- ---- what the loop carries: Z is the block's end by the definition
 pub record Loop (s : Setup) (b : Lent) (start end : Timestamp) (Z : Ended) (q : Queue) (at : Stand) (out : List Float) : Type 0 where
-  pub lent : Ready s b out
   pub s0 : ℕ
   pub begins : start.bits ≡ pos s0
   pub ends : end.bits ≡ block_end s b start.bits
   pub turn : Turn s b s0 Z q (running at out)
 
-pub loop_first : (s : Setup) (b : Lent) (start end : Timestamp) (q : Queue) (p : Player) (out : List Float) → Ready s b out → 0 < b.block
+pub loop_first : (s : Setup) (b : Lent) (start end : Timestamp) (q : Queue) (p : Player) (out : List Float) → Lends s b → 0 < b.block
     → T (within (pos 0) (pos (2 ^ 48)) start.bits) → end.bits ≡ block_end s b start.bits → kept s b.block p ≡ true → queue_good s q ≡ true → length q.events ≡ 16
     → Loop s b start end (block s b start.bits (pending q) q (opening p out start.bits)) q (record { player = p; done = 0; now = start; pieces = 0 }) out
 loop_first s b start end q p out z some from ends k g sixteen =
     let u = up_to_lem (2 ^ 48) start.bits from in
     let s0 = nat_abs start.bits in
     record {
-      lent = z;
       s0 = s0;
       begins = u.is;
       ends = ends;
@@ -77,18 +57,16 @@ module _ (s : Setup) (b : Lent) (start end : Timestamp) (Z : Ended) (q : Queue) 
   from_number f h = ap f (sym (v.ends ∙ ap (block_end s b) v.begins)) ∙ h
 
   -- ---- an event is due
-  module _ (e : Event) (due : first_before end.bits (pending q) ≡ Due e) where
+  module _ (e : Event) (due : first_before end.bits (pending q) ≡ Some e) where
     pub loop_due : Reaches s b start.bits e here
     loop_due =
         let t = turn_due s b v.s0 Z q here v.turn e (from_number (λ z. first_before z (pending q)) due) in
         subst (λ (z : ℤ). Reaches s b z e here) (sym v.begins) t.reaches
 
-    pub loop_next : (r : Queue) (to : Stand) (next : List Float) → r ≡ without q → running to next ≡ past s b start.bits e here → length next ≡ length out
-        → Loop s b start end Z r to next
-    loop_next r to next left is same =
+    pub loop_next : (r : Queue) (to : Stand) (next : List Float) → r ≡ without q → running to next ≡ past s b start.bits e here → Loop s b start end Z r to next
+    loop_next r to next left is =
         let t = turn_due s b v.s0 Z q here v.turn e (from_number (λ z. first_before z (pending q)) due) in
         record {
-          lent = same_ready s b out next v.lent same;
           s0 = v.s0;
           begins = v.begins;
           ends = v.ends;
@@ -105,7 +83,7 @@ module _ (s : Setup) (b : Lent) (start end : Timestamp) (Z : Ended) (q : Queue) 
       let u = v.turn in
       (le_of_lt u.at.inside, u.inside, up_within (2 ^ 49) at.now.bits (now_up s b v.s0 Z q here u), pieces_few s b v.s0 Z q here u)
 
-  pub loop_end_lem : first_before end.bits (pending q) ≡ Nothing → (last : Stand) (next : List Float) → running last next ≡ up_to s b start.bits b.block here
+  pub loop_end_lem : first_before end.bits (pending q) ≡ None → (last : Stand) (next : List Float) → running last next ≡ up_to s b start.bits b.block here
       → record { end = record { player = last.player; queue = q; pieces = last.pieces }; out = next } ≡ left_of Z
   loop_end_lem none last next is =
       ap (λ (r : Running). left_of (record { running = r; queue = q })) (is ∙ ap (λ (z : ℤ). up_to s b z b.block here) v.begins)

@@ -11,8 +11,7 @@ use lib.Signed.{lt_z}
 use lib.Ieee.{Float}
 use Rattle.sampler_event.specs.declared.Event.{Event}
 use Rattle.event_processor.specs.declared.Queue.{Queue}
-use Rattle.event_processor.specs.declared.First.{First}
-use Rattle.event_processor.specs.declared.First.TheVariants.{Nothing, Due}
+use Rattle.std.specs.Prelude.{Option, None, Some}
 use Rattle.event_processor.specs.Queue.{pending, first_before, is_due}
 use Rattle.sampler_player.specs.declared.Setup.{Setup}
 use Rattle.sampler_player.specs.Clock.{clock_at}
@@ -23,21 +22,21 @@ use Rattle.sampler_processor.specs.Block.{Running, opening, block_end, up_to, on
 use Rattle.sampler_processor.specs.Calls.{rendered_to, rendered_by}
 use Rattle.sampler_processor.specs.inner.Stands.{rendered_on}
 
-pub none_due : (s : Setup) (b : Lent) (start : ℤ) (l : List Event) (q : Queue) (r : Running) → first_before (block_end s b start) l ≡ Nothing
+pub none_due : (s : Setup) (b : Lent) (start : ℤ) (l : List Event) (q : Queue) (r : Running) → first_before (block_end s b start) l ≡ None
     → block s b start l q r ≡ record { running = up_to s b start b.block r; queue = q }
 unfolding block
 none_due s b start [] q r f = refl
 none_due s b start (x ∷ xs) q r f = go (ltb r.done b.block) (lt_z x.time.bits (block_end s b start)) f
   where
-    go : (z y : Bool) → cond y (Due x) Nothing ≡ Nothing
+    go : (z y : Bool) → cond y (Some x) None ≡ None
         → onward s b start (λ w t. block s b start xs w t) x q r (z && y) ≡ record { running = up_to s b start b.block r; queue = q }
     go z true g = cc
     go true false g = refl
     go false false g = refl
 
-nothing : (f : First) → is_due f ≡ false → f ≡ Nothing
-nothing Nothing h = refl
-nothing (Due e) h = absurd (false≢true (sym h))
+nothing : (f : Option Event) → is_due f ≡ false → f ≡ None
+nothing None h = refl
+nothing (Some e) h = absurd (false≢true (sym h))
 
 -- what such a block answers
 pub rendered_on_lem : (l : Leg) (b : Lent) (out : List Float) (start : ℤ) → is_due (first_before (block_end l.setup b start) (pending l.queue)) ≡ false

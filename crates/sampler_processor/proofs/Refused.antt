@@ -1,22 +1,21 @@
 -- What a call hands back by its number: "A refusal returns the old leg (making: a blank leg ..", and what making hands back otherwise is sound.
 -- The idea: each answer is the definition's under the tests that led to its number, and with 9 the queue is as it was. Assumes nothing.
 use Prim.Native.Nat.{ℕ, zero, suc}
-use mathlib.Core.Path.{◌≡◌, refl, ap, ◌∙◌}
-use mathlib.Core.Bool.{Bool, true, false, ◌||◌, cond}
+use mathlib.Core.Path.{◌≡◌, refl, sym, ap, ◌∙◌}
+use mathlib.Core.Bool.{Bool, true, false, cond}
 use mathlib.Core.List.{List}
 use native.Mathlib.Omega.{arith}
 use lib.Dec.{eqb}
 use Rattle.sampler_event.specs.declared.Event.{Event}
-use Rattle.sampler_event.specs.declared.EventAnswer.{EventAnswer}
+use Rattle.sampler_event.specs.Command.{EventAnswer, command_answer}
 use Rattle.laws.specs.Rules.{first_broken}
-use Rattle.sampler_event.specs.Command.{command_answer}
-use Rattle.event_processor.specs.declared.QueueAnswer.{QueueAnswer}
-use Rattle.event_processor.specs.Queue.{queue_full, received}
+use Rattle.event_processor.specs.Queue.{QueueAnswer, queue_full, received}
 use Rattle.event_processor.proofs.Pending.{received_number, received_full}
 use Rattle.sampler_player.specs.declared.Setup.{Setup}
 use Rattle.sampler_processor.specs.declared.Leg.{Leg}
-use Rattle.sampler_processor.specs.Numbers.{rate_bad, channels_bad, recording_long, fade_long, sizes_bad, sound, make_order}
+use Rattle.sampler_processor.specs.Numbers.{sound, make_order}
 use Rattle.sampler_processor.specs.Calls.{leg_answer, blank, made_by, make, entered_in, commanded, submit}
+use Rattle.sampler_processor.proofs.Sizes.{sizes_taken}
 use Rattle.sampler_processor.proofs.Legs.{fresh_sound}
 
 -- ---- making
@@ -29,29 +28,18 @@ make_refused s = go (first_broken (make_order s))
     go zero z = absurd (z refl)
     go (suc n) z = refl
 
--- where no rule is broken the sizes are in range
-order_sizes : (s : Setup) → first_broken (make_order s) ≡ 0 → sizes_bad s ≡ false
-order_sizes s = go (rate_bad s.rate) (channels_bad s.channels) (recording_long s.frames) (fade_long s.fade)
-  where
-    go : (a b c d : Bool) → cond {A = ℕ} a 1 (cond b 2 (cond c 3 (cond d 4 0))) ≡ 0 → (a || (b || (c || d))) ≡ false
-    go true b c d z = absurd (omega arith)
-    go false true c d z = absurd (omega arith)
-    go false false true d z = absurd (omega arith)
-    go false false false true z = absurd (omega arith)
-    go false false false false z = refl
-
 pub make_sound : (s : Setup) → (make s).number ≡ 0 → sound (make s).leg ≡ true
 unfolding make
 make_sound s = go (first_broken (make_order s)) refl
   where
     go : (n : ℕ) → first_broken (make_order s) ≡ n → (made_by n s).number ≡ 0 → sound (made_by n s).leg ≡ true
-    go zero e z = fresh_sound s (order_sizes s e)
+    go zero e z = fresh_sound s (sizes_taken s (sym e))
     go (suc n) e z = absurd (omega arith)
 
 -- ---- a command
 
 module _ (l : Leg) where
-  entered_refused : (e : Event) → ((entered_in l (received e l.queue)).number ≡ 0 → ⊥) → (entered_in l (received e l.queue)).leg ≡ l
+  pub entered_refused : (e : Event) → ((entered_in l (received e l.queue)).number ≡ 0 → ⊥) → (entered_in l (received e l.queue)).leg ≡ l
   entered_refused e z = go (queue_full e l.queue) refl
     where
       go : (b : Bool) → queue_full e l.queue ≡ b → (entered_in l (received e l.queue)).leg ≡ l

@@ -1,11 +1,10 @@
 -- What a render that is not refused gives its block, and what a render answers by what its parts answered.
 -- The idea: 0 says that no rule of the order is broken, and a block of no frames changes nothing. Assumes nothing.
-use Prim.Native.Nat.{ℕ, zero, suc, ◌*◌, ◌≤◌, ◌<◌}
+use Prim.Native.Nat.{ℕ, zero, suc, ◌*◌, ◌≤◌}
 use mathlib.Core.Path.{◌≡◌, refl, sym, ap, ◌∙◌, subst}
-use mathlib.Core.Bool.{true, false, ◌||◌, not}
+use mathlib.Core.Bool.{true, ◌||◌, not}
 use mathlib.Core.List.{List}
-use native.Mathlib.Omega.{arith}
-use borrow.Author.Tests.{ltb-false, eqb-true, eqb-false, not-false}
+use borrow.Author.Tests.{ltb-false, eqb-true, not-false}
 use lib.Dec.{eqb, ltb}
 use lib.IntN.{ℤ}
 use lib.ListN.{length}
@@ -19,6 +18,7 @@ use Rattle.sampler_player.proofs.Sound.{good_kept}
 use Rattle.sampler_processor.specs.declared.Leg.{Leg}
 use Rattle.sampler_processor.specs.Numbers.{recording_long, fade_long, render_order}
 use Rattle.sampler_processor.specs.Calls.{Rendered, rendered_to, rendered_by, render}
+use Rattle.sampler_processor.specs.inner.Stands.{Lends}
 use Rattle.sampler_processor.proofs.Admitted.{Admitted, admitted}
 use Rattle.sampler_processor.proofs.Legs.{parts, sound_sized}
 use Rattle.laws.proofs.Tests.{neither}
@@ -53,19 +53,24 @@ module _ (l : Leg) (b : Lent) (out : List Float) (start : ℤ) where
         out = eqb-true (length out) (b.channels * b.block) (not-false _ o.1);
       }
 
+  pub lends : Admitted l b out start → Lends l.setup b
+  lends a =
+      let r = ready a in
+      record {
+        slow = r.slow;
+        fast = r.fast;
+        one = r.one;
+        two = r.two;
+        short = r.short;
+        one_out = r.one_out;
+        two_out = r.two_out;
+        block = r.block;
+        recording = r.recording;
+        table = r.table;
+      }
+
   pub near : Admitted l b out start → kept l.setup b.block l.player ≡ true
   near a = good_kept l.setup b.block l.player (few a) (parts l a.is_sound).player a.near
-
-  -- not refused, and some frames
-  pub some_frames : (n k : ℕ) → (not (eqb n 0) || eqb k 0) ≡ false → (n ≡ 0) × (0 < k)
-  some_frames n k t =
-      let a = neither (not (eqb n 0)) (eqb k 0) t in
-      let z = eqb-false k 0 a.1 in
-      (eqb-true n 0 (not-false _ a.0), above k z)
-    where
-      above : (k : ℕ) → (k ≡ 0 → ⊥) → 0 < k
-      above zero h = absurd (h refl)
-      above (suc k) h = omega arith
 
   -- ---- what a render answers
 

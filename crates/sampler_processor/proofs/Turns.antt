@@ -17,11 +17,10 @@ use Rattle.sampler_event.specs.declared.Event.{Event}
 use Rattle.sampler_event.specs.declared.Kind.{Kind}
 use Rattle.laws.specs.Rules.{within}
 use Rattle.sampler_event.specs.Limits.{admissible}
-use Rattle.sampler_event.proofs.Limits.{UpTo}
+use Rattle.sampler_event.proofs.UpTo.{UpTo}
 use Rattle.sampler_event.proofs.Admissible.{passed, time_up}
 use Rattle.event_processor.specs.declared.Queue.{Queue}
-use Rattle.event_processor.specs.declared.First.{First}
-use Rattle.event_processor.specs.declared.First.TheVariants.{Nothing, Due}
+use Rattle.std.specs.Prelude.{Option, None, Some}
 use Rattle.event_processor.specs.Queue.{pending, without, first_before, each}
 use Rattle.event_processor.proofs.Pending.{pending_without}
 use Rattle.event_processor.proofs.Places.{without_places}
@@ -103,7 +102,7 @@ turn_first s b s0 q p out low high some few table soon k g e =
       pieces = le_refl _;
     }
 
-no_event : {X : Type 0} (e : Event) → ◌≡◌ {A = First} Nothing (Due e) → X
+no_event : {X : Type 0} (e : Event) → ◌≡◌ {A = Option Event} None (Some e) → X
 no_event e h = let z : ◌≡◌ {A = ℕ} 0 1 = cc in absurd (omega arith)
 
 -- ---- an event is due
@@ -232,17 +231,17 @@ module _ (s : Setup) (b : Lent) (s0 : ℕ) (Z : Ended) (q : Queue) (r : Running)
       few_left d = let f = u.few_frames in omega arith
 
   -- from the definition's list
-  turn_list : (l : List Event) → pending q ≡ l → (e : Event) → first_before (block_end s b (pos s0)) l ≡ Due e → Taken s b s0 Z q r e
+  turn_list : (l : List Event) → pending q ≡ l → (e : Event) → first_before (block_end s b (pos s0)) l ≡ Some e → Taken s b s0 Z q r e
   turn_list [] p e f = no_event e f
   turn_list (x ∷ xs) p e f = go (lt_z x.time.bits (block_end s b (pos s0))) refl f
     where
-      go : (y : Bool) → lt_z x.time.bits (block_end s b (pos s0)) ≡ y → cond y (Due x) Nothing ≡ Due e → Taken s b s0 Z q r e
+      go : (y : Bool) → lt_z x.time.bits (block_end s b (pos s0)) ≡ y → cond y (Some x) None ≡ Some e → Taken s b s0 Z q r e
       go false h g = no_event e g
       go true h g = let i : x ≡ e = cc in subst (Taken s b s0 Z q r) i (at_head x xs p h)
 
-  pub turn_due : (e : Event) → first_before (block_end s b (pos s0)) (pending q) ≡ Due e → Taken s b s0 Z q r e
+  pub turn_due : (e : Event) → first_before (block_end s b (pos s0)) (pending q) ≡ Some e → Taken s b s0 Z q r e
   turn_due e f = turn_list (pending q) refl e f
 
   -- ---- none is due: the rest of the block
-  pub turn_last : first_before (block_end s b (pos s0)) (pending q) ≡ Nothing → Z ≡ record { running = up_to s b (pos s0) b.block r; queue = q }
+  pub turn_last : first_before (block_end s b (pos s0)) (pending q) ≡ None → Z ≡ record { running = up_to s b (pos s0) b.block r; queue = q }
   turn_last f = sym u.is ∙ none_due s b (pos s0) (pending q) q r f

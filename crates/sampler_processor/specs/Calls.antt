@@ -1,21 +1,39 @@
 -- The calls: making a leg, a command, a render. Definitions only.
-use Rattle.std.specs.Prelude.{ℕ, zero, suc, cond, List, eqb, ℤ, Float}
-use Rattle.sampler_event.specs.declared.EventAnswer.{EventAnswer}
-use Rattle.laws.specs.Rules.{first_broken}
-use Rattle.sampler_event.specs.Command.{command_answer}
-use Rattle.event_processor.specs.declared.QueueAnswer.{QueueAnswer}
-use Rattle.event_processor.specs.Queue.{pending, empty_queue, received}
+use Rattle.std.specs.Prelude.{ℕ, zero, suc, cond, List, eqb, ℤ, Float, Result, Ok, Err}
+use Rattle.laws.specs.declared.Refused.{Refused}
+use Rattle.sampler_event.specs.Command.{EventAnswer, command_answer}
+use Rattle.laws.specs.Rules.{number_of, first_broken}
+use Rattle.event_processor.specs.Queue.{QueueAnswer, pending, empty_queue, received}
 use Rattle.sampler_player.specs.declared.Setup.{Setup}
 use Rattle.sampler_player.specs.Assign.{quiet}
 use Rattle.sampler_player.specs.Pieces.{Lent}
 use Rattle.sampler_processor.specs.declared.Leg.{Leg}
-use Rattle.sampler_processor.specs.declared.LegAnswer.{LegAnswer}
-use Rattle.sampler_processor.specs.declared.RenderAnswer.{RenderAnswer}
+use Rattle.sampler_processor.specs.declared.Rendered as code
 use Rattle.sampler_processor.specs.Numbers.{sound, make_order, render_order}
 use Rattle.sampler_processor.specs.Block.{Ended, opening, block}
 
+-- what making and a command answer: 0 and the leg, or the number of a refusal and the leg that it leaves
+pub record LegAnswer : Type 0 where
+  pub number : ℕ
+  pub leg : Leg
+
+-- the same of a block, with how many pieces it was rendered in
+pub record RenderAnswer : Type 0 where
+  pub number : ℕ
+  pub leg : Leg
+  pub pieces : ℕ
+
 abbrev pub leg_answer : ℕ → Leg → LegAnswer
 leg_answer n l = record { number = n; leg = l }
+
+-- so an answer of the code tells, in each of its cases
+abbrev pub told : Result Leg (Refused Leg) → LegAnswer
+told (Ok l) = leg_answer 0 l
+told (Err r) = leg_answer (number_of r.refusal) r.kept
+
+abbrev pub told_render : Result code.Rendered (Refused Leg) → RenderAnswer
+told_render (Ok r) = record { number = 0; leg = r.leg; pieces = r.pieces }
+told_render (Err r) = record { number = number_of r.refusal; leg = r.kept; pieces = 0 }
 
 -- ---- making
 

@@ -1,90 +1,92 @@
 // "Numbers a call may answer": each rule of the leg, true where its number is given, and the order of
 // making and of a render.
-ghost use Rattle.std.specs.Prelude.{◌≡◌, ◌&&◌, not, [], ◌≤◌, ◌^◌, ltb};
-ghost use Rattle.laws.specs.Rules.{first_broken};
+ghost use Rattle.std.specs.Prelude.{◌≡◌, true, ◌&&◌, not, [], ◌≤◌, ◌^◌, ltb, cond, IfOk};
+ghost use Rattle.laws.specs.Rules.{number_of, number_in, first_broken};
 ghost use Rattle.sampler_voice.specs.Voices.{is_stopped};
 ghost use Rattle.sampler_player.specs.Sound.{any_far, far_bad};
-ghost use Rattle.sampler_processor.specs.Numbers.{rate_bad, channels_bad, recording_long, recording_bad, fade_long, table_bad, block_bad, entry_bad, output_bad, start_bad, sizes_bad, sound, make_order, render_order};
-ghost use Rattle.sampler_player.specs.Pieces.{lending};
+ghost use Rattle.sampler_player.specs.Pieces.{lending, lent_by};
+ghost use Rattle.sampler_processor.specs.Numbers.{channels_bad, recording_bad, table_bad, block_bad, entry_bad, output_bad, start_bad, sound, make_order, render_order};
 
 use crate::Leg;
-use sampler_player::{Player, Setup};
+use laws::Refusal;
+use sampler_event::Limits;
+use sampler_player::{Lent, Player, Setup};
 use sampler_voice::Voice;
-use timestamp::Timestamp;
+use timestamp::{Rate, Timestamp};
+
+// A rule: this refusal where it is broken.
+fn rule(refusal: Refusal, broken: bool) -> Result<(), Refusal>
+    ensures { number_in result ≡ cond broken (number_of refusal) 0 }
+{
+    if broken { Err(refusal) } else { Ok(()) }
+}
 
 // ---- the sizes that a leg keeps: 1, 2, 3, 4
-
-fn rate_bad(rate: usize) -> bool
-    ensures { result ≡ rate_bad rate }
-{
-    !((8000 <= rate) & (rate <= 96000))
-}
 
 fn channels_bad(channels: usize) -> bool
     ensures { result ≡ channels_bad channels }
 {
-    !((channels == 1) | (channels == 2))
+    !matches!(channels, 1 | 2)
 }
 
-fn recording_long(frames: usize) -> bool
-    ensures { result ≡ recording_long frames }
-{
-    4194304 < frames
+// The most frames of a recording, and of a fade.
+const LONGEST_RECORDING: usize = 4194304;
+
+const LONGEST_FADE: usize = 4800;
+
+// The four numbers of a leg, each in its range.
+#[derive(Clone, Copy)]
+pub struct Sizes {
+    pub setup: Setup,
+    ghost slow: { 8000 ≤ setup.rate },
+    ghost fast: { setup.rate ≤ 96000 },
+    ghost one: { 1 ≤ setup.channels },
+    ghost two: { setup.channels ≤ 2 },
+    ghost short: { setup.frames ≤ 4194304 },
+    ghost fade_bound: { setup.fade ≤ 4800 },
 }
 
-fn fade_long(fade: usize) -> bool
-    ensures { result ≡ fade_long fade }
-{
-    4800 < fade
+impl Sizes {
+    // What they say of events.
+    pub fn limits(self) -> Limits
+        ensures { (result.rate ≡ self.setup.rate) × (result.fade ≡ self.setup.fade) }
+    {
+        Limits {
+            rate: self.setup.rate,
+            fade: self.setup.fade,
+        }
+    }
 }
 
-pub fn sizes_bad(s: Setup) -> bool
-    ensures { result ≡ sizes_bad s }
-{
-    let long = recording_long(s.frames) | fade_long(s.fade);
-    rate_bad(s.rate) | (channels_bad(s.channels) | long)
-}
+// "Making a leg: 1, 2, 3, 4".
+impl TryFrom<Setup> for Sizes {
+    type Error = Refusal;
 
-// "Making a leg: 1, 2, 3, 4"; 0 for no refusal.
-pub fn make_number(s: Setup) -> u8
-    ensures { result ≡ first_broken (make_order s) }
-{
-    if rate_bad(s.rate) {
-        return 1;
+    ghost try_from_gives = { λ asked answer. (number_in answer ≡ first_broken (make_order asked)) × IfOk answer (λ sizes. sizes.setup ≡ asked) };
+
+    fn try_from(setup: Setup) -> Result<Sizes, Refusal> {
+        Rate::try_from(setup.rate)?;
+        rule(Refusal::Channels, channels_bad(setup.channels))?;
+        rule(Refusal::Recording, LONGEST_RECORDING < setup.frames)?;
+        rule(Refusal::FadeTable, LONGEST_FADE < setup.fade)?;
+        Ok(Sizes { setup })
     }
-    if channels_bad(s.channels) {
-        return 2;
-    }
-    if recording_long(s.frames) {
-        return 3;
-    }
-    if fade_long(s.fade) {
-        return 4;
-    }
-    0
 }
 
 // ---- what a render is lent: 4, 3, 5, 7, 6
 
-fn table_bad(s: Setup, table: &[f32]) -> bool
-    ensures { result ≡ table_bad s table.now }
+fn table_bad(setup: Setup, table: &[f32]) -> bool
+    ensures { result ≡ table_bad setup table.now }
 {
-    let n = table.len();
-    let fade = s.fade;
-    fade_long(n) | !(n == fade)
+    (LONGEST_FADE < table.len()) | (table.len() != setup.fade)
 }
 
 // The length is asked only of frames that are few enough for the product.
-fn recording_bad(s: Setup, rec: &[f32]) -> bool
-    requires { s.channels ≤ 2 }
-    ensures { result ≡ recording_bad s rec.now }
+fn recording_bad(setup: Setup, recording: &[f32]) -> bool
+    requires { setup.channels ≤ 2 }
+    ensures { result ≡ recording_bad setup recording.now }
 {
-    let frames = s.frames;
-    if recording_long(frames) {
-        return true;
-    }
-    let channels = s.channels;
-    !(rec.len() == channels * frames)
+    LONGEST_RECORDING < setup.frames || recording.len() != setup.channels * setup.frames
 }
 
 // Rule 5 asks nothing of the recording and of the table.
@@ -92,10 +94,7 @@ fn block_bad(channels: usize, block: usize, out: &[f32]) -> bool
     requires { channels ≤ 2 }
     ensures { result ≡ block_bad (lending [] [] channels block) out.now }
 {
-    if 4096 < block {
-        return true;
-    }
-    !(out.len() == channels * block)
+    4096 < block || out.len() != channels * block
 }
 
 fn start_bad(start: Timestamp) -> bool
@@ -115,10 +114,8 @@ fn output_bad(out: &[f32]) -> bool
     ensures { result ≡ output_bad out.now }
 {
     let mut bad = false;
-    let mut i: usize = 0;
-    while i < out.len() {
-        bad = bad | entry_bad(out[i]);
-        i += 1;
+    for x in out {
+        bad |= entry_bad(*x);
     }
     bad
 }
@@ -134,62 +131,29 @@ fn voice_far(v: Voice) -> bool
 fn any_far(voices: [Voice; 2]) -> bool
     ensures { result ≡ any_far voices }
 {
-    let v = voices[0];
-    let w = voices[1];
+    let [v, w] = voices;
     voice_far(v) | voice_far(w)
 }
 
 fn far_bad(p: Player) -> bool
     ensures { result ≡ far_bad p }
 {
-    let position = p.position;
     let last = Timestamp {
         bits: 281474976710656,
     };
-    let voices = p.voices;
-    last.is_before(position) | any_far(voices)
+    last.is_before(p.position) | any_far(p.voices)
 }
 
-// "Render: 14, 4, 3, 2, 5, 7, 8, 6"; 0 for no refusal. Whether the leg is sound is asked before, where the leg
-// stands, so that it is not copied to be asked.
-pub fn render_number(
-    whole: bool,
-    leg: Leg,
-    rec: &[f32],
-    table: &[f32],
-    channels: usize,
-    block: usize,
-    out: &[f32],
-    start: Timestamp,
-) -> u8
-    requires { whole ≡ sound leg }
-    ensures { result ≡ first_broken (render_order leg (lending rec.now table.now channels block) out.now start.bits) }
+// "Render: 14, 4, 3, 2, 5, 7, 8, 6". The leg is lent, so that it is not copied to be asked.
+pub fn may_render(leg: &Leg, lent: Lent, out: &[f32], start: Timestamp) -> Result<(), Refusal>
+    ensures { number_in result ≡ first_broken (render_order leg.now (lent_by lent.entry) out.now start.bits) }
 {
-    let setup = leg.setup;
-    let player = leg.player;
-    if !whole {
-        return 14;
-    }
-    if table_bad(setup, table) {
-        return 4;
-    }
-    if recording_bad(setup, rec) {
-        return 3;
-    }
-    if channels_bad(channels) {
-        return 2;
-    }
-    if block_bad(channels, block, out) {
-        return 5;
-    }
-    if start_bad(start) {
-        return 7;
-    }
-    if far_bad(player) {
-        return 8;
-    }
-    if output_bad(out) {
-        return 6;
-    }
-    0
+    rule(Refusal::Damaged, !leg.sound())?;
+    rule(Refusal::FadeTable, table_bad(leg.setup, lent.table))?;
+    rule(Refusal::Recording, recording_bad(leg.setup, lent.recording))?;
+    rule(Refusal::Channels, channels_bad(lent.channels))?;
+    rule(Refusal::Block, block_bad(lent.channels, lent.block, out))?;
+    rule(Refusal::BlockStart, start_bad(start))?;
+    rule(Refusal::TooFar, far_bad(leg.player))?;
+    rule(Refusal::Output, output_bad(out))
 }

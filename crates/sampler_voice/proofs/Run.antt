@@ -13,12 +13,13 @@ use borrow.Author.Tests.{le-ltb}
 use Rattle.sampler_fade.specs.Entry.{one, fade_out}
 use Rattle.sampler_fade.proofs.Entry as Entry
 use Rattle.sampler_voice.specs.declared.Channels.{Channels}
+use Rattle.sampler_voice.specs.declared.Pair.{Pair}
 use Rattle.sampler_voice.specs.declared.Phase.{Phase}
 use Rattle.sampler_voice.specs.declared.Phase.TheVariants.{Stopped, FadingIn, Playing, FadingOut}
 use Rattle.sampler_voice.specs.Sound.{fetched, scaled, added}
 use Rattle.sampler_voice.specs.Voices.{is_stopped, faded, sounded}
-use Rattle.sampler_voice.specs.inner.Run.{later, run}
-use Rattle.sampler_voice.proofs.Step.{adds}
+use Rattle.sampler_voice.specs.inner.Run.{later, run, Sounds}
+use Rattle.sampler_voice.proofs.Step.{adds, fades_out}
 
 pub later_zero : (ph : Phase) → later 0 ph ≡ ph
 unfolding later
@@ -37,6 +38,12 @@ later_later k d (FadingOut i) = ap FadingOut (add_assoc i k d)
 -- the first entry of a fade out is past the table, and so 1.0
 pub full : (fade : List Float) → fade_out fade 0 ≡ one
 full fade = Entry.past fade (length fade - 0) (omega arith)
+
+-- so a fade out sounds full there
+pub full_out : (fade : List Float) (k f : ℕ) (post : ℕ → Pair → Pair → Type 0) → ((i : ℕ) → i < k → f + i ≡ 0)
+    → ((i : ℕ) (q r : Pair) → i < k → post i q r → r ≡ scaled one q) → Sounds fade (FadingOut f) k post
+full_out fade k f post z h =
+    fades_out fade k post f (λ i q r l e. h i q r l e ∙ ap (λ (g : Float). scaled g q) (sym (ap (fade_out fade) (z i l) ∙ full fade)))
 
 module _ (rec : List Float) (rn : ℕ) (fade : List Float) (n : ℕ) (ch : Channels) where
   pub past : (ph : Phase) (p j : ℕ) (out : List Float) → rn ≤ p → sounded rec rn fade n ch ph p j out ≡ out
@@ -78,13 +85,8 @@ module _ (rec : List Float) (rn : ℕ) (fade : List Float) (n : ℕ) (ch : Chann
   unfolding run
   nothing ph p j k out l = clip ph p j 0 k out zero-le (λ w. omega arith)
 
-  -- a fade out at 0: its first frame is full, and the table has the others
-  pub peel : (p j k : ℕ) (out : List Float) → p < rn → 0 < k
-      → run rec rn fade n ch (FadingOut 0) p j k out
-      ≡ run rec rn fade n ch (FadingOut 1) (p + 1) (j + 1) (k - 1) (added n ch j (scaled one (fetched rec rn ch p)) out)
-  unfolding later faded
-  peel p j k out l z =
-      ap (λ (x : ℕ). run rec rn fade n ch (FadingOut 0) p j x out) (sym (add-sub_of_le {n = k} {m = 1} (omega arith)))
-      ∙ run_add (FadingOut 0) p j 1 (k - 1) out
-      ∙ ap (run rec rn fade n ch (FadingOut 1) (p + 1) (j + 1) (k - 1))
-      (run_one (FadingOut 0) p j out l refl ∙ ap (λ (g : Float). added n ch j (scaled g (fetched rec rn ch p)) out) (full fade))
+  -- a run is its first m frames, and then the others
+  pub cut : (ph : Phase) (p j m k : ℕ) (out : List Float) → m ≤ k
+      → run rec rn fade n ch ph p j k out ≡ run rec rn fade n ch (later m ph) (p + m) (j + m) (k - m) (run rec rn fade n ch ph p j m out)
+  cut ph p j m k out l =
+      ap (λ (x : ℕ). run rec rn fade n ch ph p j x out) (sym (add-sub_of_le l)) ∙ run_add ph p j m (k - m) out

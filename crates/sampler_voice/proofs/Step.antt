@@ -2,7 +2,7 @@
 -- The idea: within the recording a phase that isn't Stopped adds its pair. Assumes nothing.
 use Prim.Native.Nat.{ℕ, ◌+◌, ◌<◌}
 use mathlib.Core.Path.{◌≡◌, refl}
-use mathlib.Core.Bool.{Bool, true, false, true≢false, cond}
+use mathlib.Core.Bool.{false, true≢false}
 use mathlib.Core.List.{List}
 use native.Mathlib.Numerals.{add-one}
 use lib.Ieee.{Float}
@@ -14,7 +14,7 @@ use Rattle.sampler_voice.specs.declared.Phase.{Phase}
 use Rattle.sampler_voice.specs.declared.Phase.TheVariants.{Stopped, FadingIn, Playing, FadingOut}
 use Rattle.sampler_voice.specs.Sound.{fetched, scaled, added}
 use Rattle.sampler_voice.specs.Voices.{is_stopped, faded, sounded}
-use Rattle.sampler_voice.specs.inner.Run.{later, fading, run}
+use Rattle.sampler_voice.specs.inner.Run.{later, run, Sounds}
 
 module _ (rec : List Float) (rn : ℕ) (fade : List Float) (n : ℕ) (ch : Channels) where
   pub adds : (ph : Phase) (p j : ℕ) (out : List Float) → p < rn → is_stopped ph ≡ false
@@ -38,14 +38,24 @@ module _ (rec : List Float) (rn : ℕ) (fade : List Float) (n : ℕ) (ch : Chann
       → out' ≡ run rec rn fade n ch ph p j (i + 1) out₀
   step ph p j i out₀ out out' q l s a b e = cc (next ph p j i out₀ l s)
 
--- a fade sounds, and scales by the entry that is looked up
-pub fading_sounds : (rising : Bool) (f i : ℕ) → is_stopped (later i (fading rising f)) ≡ false
+-- a phase that isn't Stopped goes on as one
+pub later_sounds : (ph : Phase) (i : ℕ) → is_stopped ph ≡ false → is_stopped (later i ph) ≡ false
 unfolding later
-fading_sounds true f i = refl
-fading_sounds false f i = refl
+later_sounds Stopped i s = s
+later_sounds (FadingIn f) i s = s
+later_sounds Playing i s = s
+later_sounds (FadingOut f) i s = s
 
-pub fading_scales : (fade : List Float) (rising : Bool) (f i : ℕ) (q : Pair)
-    → faded fade (later i (fading rising f)) q ≡ scaled (cond rising (fade_in fade (f + i)) (fade_out fade (f + i))) q
-unfolding faded later
-fading_scales fade true f i q = refl
-fading_scales fade false f i q = refl
+-- what is made of the pairs of a voice that plays, and of one that fades
+module _ (fade : List Float) (k : ℕ) (post : ℕ → Pair → Pair → Type 0) where
+  pub plays : ((i : ℕ) (q r : Pair) → i < k → post i q r → r ≡ q) → Sounds fade Playing k post
+  unfolding faded later
+  plays h = (refl, h)
+
+  pub fades_in : (f : ℕ) → ((i : ℕ) (q r : Pair) → i < k → post i q r → r ≡ scaled (fade_in fade (f + i)) q) → Sounds fade (FadingIn f) k post
+  unfolding faded later
+  fades_in f h = (refl, h)
+
+  pub fades_out : (f : ℕ) → ((i : ℕ) (q r : Pair) → i < k → post i q r → r ≡ scaled (fade_out fade (f + i)) q) → Sounds fade (FadingOut f) k post
+  unfolding faded later
+  fades_out f h = (refl, h)

@@ -3,11 +3,13 @@
 use Prim.Native.Nat.{ℕ, zero, suc, ◌+◌, ◌-◌, ◌<◌, ◌≤◌}
 use mathlib.Core.Path.{◌≡◌, refl, sym, ◌∙◌, ap}
 use mathlib.Core.Bool.{true, false≢true}
+use mathlib.Core.Logic.{inl, inr}
 use mathlib.Core.List.{List, [], ◌∷◌}
 use native.Mathlib.Omega.{arith}
-use native.Mathlib.Nat.{add-sub_of_le}
+use native.Mathlib.Nat.{add-zero, sub-zero, add-sub_of_le}
 use lib.ListN.{length}
 use lib.Ieee.{Float}
+use Rattle.std.proofs.lemmas.Bool.{cases_lt}
 use borrow.Author.Tests.{lt-ltb, le-ltb}
 use Rattle.sampler_voice.specs.declared.Channels.{Channels}
 use Rattle.sampler_voice.specs.declared.Voice.{Voice}
@@ -68,6 +70,17 @@ module _ (rec : List Float) (rn : ℕ) (fade : List Float) (n : ℕ) (ch : Chann
       ∙ playing (p + m) (j + m) (k - m) (run rec rn fade n ch (FadingIn i) p j m out)
       ∙ ap (λ (x : ℕ). heard x Playing (run rec rn fade n ch Playing (p + m) (j + m) (k - m) (run rec rn fade n ch (FadingIn i) p j m out))) (omega arith)
 
+  -- the two in one: m frames fade, none where the fade is over, and the others play
+  pub in_past : (i p j m k : ℕ) (out : List Float) → m ≡ length fade - i → m ≤ k → 0 < k
+      → frames rec rn fade n ch j k (heard p (FadingIn i) out)
+      ≡ heard (p + k) Playing (run rec rn fade n ch Playing (p + m) (j + m) (k - m) (run rec rn fade n ch (FadingIn i) p j m out))
+  unfolding run
+  in_past i p j m k out e h z =
+      elim (cases_lt i (length fade)) [
+        | inl l ↦ in_long i p j m k out l (omega arith) h
+        | inr g ↦ let none : m ≡ 0 = omega arith in rw (none, add-zero, add-zero, sub-zero) (in_over i p j k out g z)
+      ]
+
   pub out_over : (i p j k : ℕ) (out : List Float) → length fade ≤ i → 0 < k
       → frames rec rn fade n ch j k (heard p (FadingOut i) out) ≡ heard p Stopped out
   unfolding settled
@@ -91,6 +104,15 @@ module _ (rec : List Float) (rn : ℕ) (fade : List Float) (n : ℕ) (ch : Chann
       ∙ frames_add rec rn fade n ch j m (k - m) (heard p (FadingOut i) out)
       ∙ ap (frames rec rn fade n ch (j + m) (k - m)) (out_end i p j m out l e)
       ∙ stopped (p + m) (j + m) (k - m) (run rec rn fade n ch (FadingOut i) p j m out)
+
+  pub out_past : (i p j m k : ℕ) (out : List Float) → m ≡ length fade - i → m ≤ k → 0 < k
+      → frames rec rn fade n ch j k (heard p (FadingOut i) out) ≡ heard (p + m) Stopped (run rec rn fade n ch (FadingOut i) p j m out)
+  unfolding run
+  out_past i p j m k out e h z =
+      elim (cases_lt i (length fade)) [
+        | inl l ↦ out_long i p j m k out l (omega arith) h
+        | inr g ↦ let none : m ≡ 0 = omega arith in rw (none, add-zero) (out_over i p j k out g z)
+      ]
 
   -- a voice whose phase is known
   pub known : (v : Voice) (ph : Phase) (j k : ℕ) (out : List Float) → v.phase ≡ ph

@@ -10,6 +10,10 @@ use Rattle.sampler_voice.specs.Sound.{fetched, scaled, added}
 
 -- ---- a voice
 
+-- a phase by its number. 1: fading in at i; 2: playing; 3: fading out at i; any other: stopped
+abbrev pub numbered : ℕ → ℕ → Phase
+numbered number i = cond (eqb number 1) (FadingIn i) (cond (eqb number 2) Playing (cond (eqb number 3) (FadingOut i) Stopped))
+
 -- "Stopped at 0"
 abbrev pub silent : Voice
 silent = record { position = 0; phase = Stopped }

@@ -1,178 +1,62 @@
 // A piece of one voice: tight loops that stay in one phase, within the recording and the table. The
 // recording's end and a fade's full first frame are settled before the loop.
-ghost use Rattle.std.specs.Prelude.{◌≡◌, false, ◌+◌, ◌<◌, ◌≤◌, ◌^◌, length};
+ghost use Rattle.std.specs.Prelude.{◌≡◌, ◌+◌, ◌-◌, ◌<◌, ◌≤◌, ◌^◌, ℕ, length};
 ghost use Rattle.sampler_voice.specs.inner.Room.{Room};
 ghost use Rattle.sampler_voice.specs.Voices.{lent, heard, frames};
-ghost use Rattle.sampler_voice.specs.inner.Run.{fading, run, Reach};
+ghost use Rattle.sampler_voice.specs.inner.Run.{run, Sounds};
 
 use super::sound::{fetch, put};
-use crate::{Channels, Phase, Voice};
-use sampler_fade::fade_value;
+use crate::{Pair, Phase, Source, Voice};
+use sampler_fade::{fade_in_value, fade_out_value};
 
-// k frames of a voice that plays, within the recording.
-fn play(
+// k frames of a voice that stays in one phase: a pair of the recording is heard as `sound` makes it of the frame's
+// number and the pair. Past the recording's end nothing is added.
+pub fn add_frames<F: Fn(usize, Pair) -> Pair>(
     out: &mut [f32],
     n: usize,
     j: usize,
-    rec: &[f32],
-    rn: usize,
-    p: usize,
-    fade: &[f32],
-    channels: Channels,
     k: usize,
+    source: Source,
+    p: usize,
+    sound: F,
 )
-    requires output_room { Room channels.output n out.old }
-    requires recording_room { Room channels.recording rn rec.now }
+    requires output_room { Room source.channels.output n out.old }
     requires within_output { j + k ≤ n }
-    requires within_recording { p + k ≤ rn }
-    ensures { out.new ≡ run rec.now rn fade.now n channels Phase.Playing p j k out.old }
+    requires callable { (i : ℕ) (pair : Pair) → i < k → F.pre sound i pair }
+    ensures { (phase : Phase) → Sounds source.entry.fade.now phase k (F.post sound) → out.new ≡ run source.entry.recording.now source.entry.frames source.entry.fade.now n source.entry.channels phase p j k out.old }
 {
-    let mut i = 0;
-    while i < k {
-        put(out, n, channels, j + i, fetch(rec, rn, channels, p + i));
-        i += 1;
+    let within = k.min(source.frames.saturating_sub(p));
+    for i in 0..within {
+        let pair = sound(i, fetch(source, p + i));
+        put(out, n, source.channels, j + i, pair);
     }
 }
 
-// k frames of a voice that fades from f on, within the recording and the table.
-fn fade_along(
-    out: &mut [f32],
-    n: usize,
-    j: usize,
-    rec: &[f32],
-    rn: usize,
-    p: usize,
-    fade: &[f32],
-    rising: bool,
-    f: usize,
-    channels: Channels,
-    k: usize,
-)
-    requires output_room { Room channels.output n out.old }
-    requires recording_room { Room channels.recording rn rec.now }
+// k frames of a voice that fades in from f on, within the table.
+fn fade_in(out: &mut [f32], n: usize, j: usize, k: usize, source: Source, p: usize, f: usize)
+    requires output_room { Room source.channels.output n out.old }
     requires within_output { j + k ≤ n }
-    requires within_recording { p + k ≤ rn }
-    requires within_fade { f + k ≤ length fade.now }
-    requires falling_nonzero { rising ≡ false → 0 < f }
-    ensures { out.new ≡ run rec.now rn fade.now n channels (fading rising f) p j k out.old }
+    requires within_fade { k ≤ length source.fade.now - f }
+    ensures { out.new ≡ run source.entry.recording.now source.entry.frames source.entry.fade.now n source.entry.channels (Phase.FadingIn f) p j k out.old }
 {
-    let mut i = 0;
-    while i < k {
-        let g = fade_value(fade, rising, f + i);
-        put(
-            out,
-            n,
-            channels,
-            j + i,
-            fetch(rec, rn, channels, p + i).scaled(g),
-        );
-        i += 1;
-    }
+    add_frames(out, n, j, k, source, p, |i, pair| {
+        pair.scaled(fade_in_value(source.fade, f + i))
+    });
 }
 
-// How many of k frames from p on are within the recording.
-fn reach(k: usize, p: usize, rn: usize) -> usize
-    requires { p ≤ rn }
-    ensures { Reach k p rn result }
-{
-    let left = rn - p;
-    if k <= left { k } else { left }
-}
-
-// k frames of a voice that plays. Past the recording's end nothing is added.
-pub fn render_playing(
-    out: &mut [f32],
-    n: usize,
-    j: usize,
-    rec: &[f32],
-    rn: usize,
-    p: usize,
-    fade: &[f32],
-    channels: Channels,
-    k: usize,
-)
-    requires output_room { Room channels.output n out.old }
-    requires recording_room { Room channels.recording rn rec.now }
+// The same of one that fades out. A fade out at 0 is full: its entry is past the table.
+fn fade_out(out: &mut [f32], n: usize, j: usize, k: usize, source: Source, p: usize, f: usize)
+    requires output_room { Room source.channels.output n out.old }
     requires within_output { j + k ≤ n }
-    ensures { out.new ≡ run rec.now rn fade.now n channels Phase.Playing p j k out.old }
+    requires within_fade { k ≤ length source.fade.now - f }
+    requires position_bound { p + k < 2 ^ 62 }
+    ensures { out.new ≡ run source.entry.recording.now source.entry.frames source.entry.fade.now n source.entry.channels (Phase.FadingOut f) p j k out.old }
 {
-    if p < rn {
-        let m = reach(k, p, rn);
-        play(out, n, j, rec, rn, p, fade, channels, m);
-    }
-}
-
-// k frames of a voice that fades from f on, within the recording. A fade out at 0 is full: its entry is past the table.
-fn fade_from(
-    out: &mut [f32],
-    n: usize,
-    j: usize,
-    rec: &[f32],
-    rn: usize,
-    p: usize,
-    fade: &[f32],
-    rising: bool,
-    f: usize,
-    channels: Channels,
-    k: usize,
-)
-    requires output_room { Room channels.output n out.old }
-    requires recording_room { Room channels.recording rn rec.now }
-    requires within_output { j + k ≤ n }
-    requires within_recording { p + k ≤ rn }
-    requires within_fade { f + k ≤ length fade.now }
-    ensures { out.new ≡ run rec.now rn fade.now n channels (fading rising f) p j k out.old }
-{
-    if rising {
-        fade_along(out, n, j, rec, rn, p, fade, true, f, channels, k);
-        return;
-    }
-    if 0 < f {
-        fade_along(out, n, j, rec, rn, p, fade, false, f, channels, k);
-        return;
-    }
-    if 0 < k {
-        put(out, n, channels, j, fetch(rec, rn, channels, p).scaled(1.0));
-        fade_along(
-            out,
-            n,
-            j + 1,
-            rec,
-            rn,
-            p + 1,
-            fade,
-            false,
-            1,
-            channels,
-            k - 1,
-        );
-    }
-}
-
-// k frames of a voice that fades from f on. Past the recording's end nothing is added.
-fn render_fade(
-    out: &mut [f32],
-    n: usize,
-    j: usize,
-    rec: &[f32],
-    rn: usize,
-    p: usize,
-    fade: &[f32],
-    rising: bool,
-    f: usize,
-    channels: Channels,
-    k: usize,
-)
-    requires output_room { Room channels.output n out.old }
-    requires recording_room { Room channels.recording rn rec.now }
-    requires within_output { j + k ≤ n }
-    requires within_fade { f + k ≤ length fade.now }
-    ensures { out.new ≡ run rec.now rn fade.now n channels (fading rising f) p j k out.old }
-{
-    if p < rn {
-        let m = reach(k, p, rn);
-        fade_from(out, n, j, rec, rn, p, fade, rising, f, channels, m);
-    }
+    let full = if f == 0 { k.min(1) } else { 0 };
+    add_frames(out, n, j, full, source, p, |_, pair| pair.scaled(1.0));
+    add_frames(out, n, j + full, k - full, source, p + full, |i, pair| {
+        pair.scaled(fade_out_value(source.fade, f + full + i))
+    });
 }
 
 // k frames, from frame j of the output on, of a voice that fades in at i. A fade that is over takes no frame.
@@ -181,47 +65,37 @@ pub fn render_in(
     n: usize,
     j: usize,
     k: usize,
-    rec: &[f32],
-    rn: usize,
+    source: Source,
     p: usize,
-    fade: &[f32],
     i: usize,
-    channels: Channels,
 ) -> Voice
-    requires output_room { Room channels.output n out.old }
-    requires recording_room { Room channels.recording rn rec.now }
+    requires output_room { Room source.channels.output n out.old }
     requires within_output { j + k ≤ n }
     requires some_frames { 0 < k }
     requires position_bound { p + k < 2 ^ 62 }
-    ensures { lent result out.new ≡ frames rec.now rn fade.now n channels j k (heard p (Phase.FadingIn i) out.old) }
+    ensures { lent result out.new ≡ frames source.entry.recording.now source.entry.frames source.entry.fade.now n source.entry.channels j k (heard p (Phase.FadingIn i) out.old) }
 {
-    let position = p + k;
-    let all = fade.len();
-    if all <= i {
-        render_playing(out, n, j, rec, rn, p, fade, channels, k);
-        let phase = Phase::Playing;
-        return Voice { position, phase };
-    }
-    let left = all - i;
-    if k < left {
-        render_fade(out, n, j, rec, rn, p, fade, true, i, channels, k);
-        let phase = Phase::FadingIn(i + k);
-        return Voice { position, phase };
-    }
-    render_fade(out, n, j, rec, rn, p, fade, true, i, channels, left);
-    render_playing(
+    let left = source.fade.len().saturating_sub(i);
+    let fading = k.min(left);
+    fade_in(out, n, j, fading, source, p, i);
+    add_frames(
         out,
         n,
-        j + left,
-        rec,
-        rn,
-        p + left,
-        fade,
-        channels,
-        k - left,
+        j + fading,
+        k - fading,
+        source,
+        p + fading,
+        |_, pair| pair,
     );
-    let phase = Phase::Playing;
-    Voice { position, phase }
+    let phase = if k < left {
+        Phase::FadingIn(i + k)
+    } else {
+        Phase::Playing
+    };
+    Voice {
+        position: p + k,
+        phase,
+    }
 }
 
 // The same of one that fades out at i.
@@ -230,34 +104,26 @@ pub fn render_out(
     n: usize,
     j: usize,
     k: usize,
-    rec: &[f32],
-    rn: usize,
+    source: Source,
     p: usize,
-    fade: &[f32],
     i: usize,
-    channels: Channels,
 ) -> Voice
-    requires output_room { Room channels.output n out.old }
-    requires recording_room { Room channels.recording rn rec.now }
+    requires output_room { Room source.channels.output n out.old }
     requires within_output { j + k ≤ n }
     requires some_frames { 0 < k }
     requires position_bound { p + k < 2 ^ 62 }
-    ensures { lent result out.new ≡ frames rec.now rn fade.now n channels j k (heard p (Phase.FadingOut i) out.old) }
+    ensures { lent result out.new ≡ frames source.entry.recording.now source.entry.frames source.entry.fade.now n source.entry.channels j k (heard p (Phase.FadingOut i) out.old) }
 {
-    let all = fade.len();
-    if all <= i {
-        let phase = Phase::Stopped;
-        return Voice { position: p, phase };
+    let left = source.fade.len().saturating_sub(i);
+    let fading = k.min(left);
+    fade_out(out, n, j, fading, source, p, i);
+    let phase = if k < left {
+        Phase::FadingOut(i + k)
+    } else {
+        Phase::Stopped
+    };
+    Voice {
+        position: p + fading,
+        phase,
     }
-    let left = all - i;
-    if k < left {
-        render_fade(out, n, j, rec, rn, p, fade, false, i, channels, k);
-        let position = p + k;
-        let phase = Phase::FadingOut(i + k);
-        return Voice { position, phase };
-    }
-    render_fade(out, n, j, rec, rn, p, fade, false, i, channels, left);
-    let position = p + left;
-    let phase = Phase::Stopped;
-    Voice { position, phase }
 }

@@ -1,61 +1,40 @@
 // One frame's pair, from the recording to the output.
-ghost use Rattle.std.specs.Prelude.{◌≡◌, ◌<◌, length, get_or};
-ghost use Rattle.std.specs.Float.{nan};
-ghost use Rattle.sampler_voice.specs.Sound.{cleaned, fetched, add_at, added};
+ghost use Rattle.std.specs.Prelude.{◌≡◌, ◌<◌};
+ghost use Rattle.sampler_voice.specs.Sound.{cleaned, fetched, added};
 ghost use Rattle.sampler_voice.specs.inner.Room.{Room};
 
-use crate::{Channels, Pair};
+use crate::{Channels, Pair, Source};
 
+// An entry as it counts: a bad one is 0.0, and a NaN fails either test. `sampler_fade` has its like for a table.
+#[tactic(auto, unfolding(crate::specs::Sound::cleaned))]
 fn clean(x: f32) -> f32
     ensures { result ≡ cleaned x }
 {
-    if -16.0 <= x {
-        if x <= 16.0 {
-            return x;
-        }
-    }
-    0.0
+    if -16.0 <= x && x <= 16.0 { x } else { 0.0 }
 }
 
-fn sample(rec: &[f32], i: usize) -> f32
-    requires { i < length rec.now }
-    ensures { result ≡ cleaned (get_or rec.now i nan) }
+#[tactic(auto, using(crate::proofs::Room::fetched_two, crate::proofs::Room::fetched_one))]
+pub fn fetch(source: Source, p: usize) -> Pair
+    requires { p < source.frames }
+    ensures { result ≡ fetched source.entry.recording.now source.entry.frames source.entry.channels p }
 {
-    clean(rec[i])
-}
-
-pub fn fetch(rec: &[f32], rn: usize, channels: Channels, p: usize) -> Pair
-    requires recording_room { Room channels.recording rn rec.now }
-    requires within_recording { p < rn }
-    ensures { result ≡ fetched rec.now rn channels p }
-{
-    if channels.both() {
-        Pair {
-            left: sample(rec, p),
-            right: sample(rec, rn + p),
-        }
+    let left = clean(source.recording[p]);
+    let right = if source.channels.both() {
+        clean(source.recording[source.frames + p])
     } else {
-        Pair {
-            left: sample(rec, p),
-            right: 0.0,
-        }
-    }
+        0.0
+    };
+    Pair { left, right }
 }
 
-fn add_at(out: &mut [f32], i: usize, x: f32)
-    requires { i < length out.old }
-    ensures { out.new ≡ add_at i x out.old }
-{
-    out[i] = out[i] + x;
-}
-
+#[tactic(auto, using(crate::proofs::Room::added_two, crate::proofs::Room::added_one))]
 pub fn put(out: &mut [f32], n: usize, channels: Channels, j: usize, p: Pair)
     requires output_room { Room channels.output n out.old }
     requires within_output { j < n }
     ensures { out.new ≡ added n channels j p out.old }
 {
-    add_at(out, j, p.left);
+    out[j] += p.left;
     if channels.both() {
-        add_at(out, n + j, p.right);
+        out[n + j] += p.right;
     }
 }

@@ -3,11 +3,10 @@
 use Rattle.std.proofs.Common.{◌≡◌, ℕ, zero, suc, ◌+◌, ◌-◌, ◌*◌, ◌^◌, ◌<◌, ◌≤◌, Bool, true, false, not, ◌&&◌, ◌||◌, T, eqb, ltb, ◌⊎◌, ℤ, pos, negsuc, neg_ℤ, sym, refl, ap, ◌∙◌, subst, inl, inr, le_trans, le_of_eq, lt_of_lt_of_le, lt_of_le_of_lt, le_of_lt, lt_irrefl, zero-lt-suc, mul_assoc, lt_of_mul-lt-mul_right, mul-lt-mul_of_pos_right, mul-pos, lt_of_not-le, zero-mul, mul-one, arith, lit<, lit≤, eqb→eq, ltb→lt, lt→ltb, nltb→le, pow_pos, pow_mono, pow-add, le-ltb, lt-ltb}
 use lib.Signed.{mag}
 use lib.Dec.{eqb_refl}
-use lib.Ieee.{Float, nan, inf, fin, binary64, up, down, round, mul, neg, lt, le, eq, ne, fits}
+use lib.Ieee.{Float, nan, inf, fin, binary64, up, down, round, mul, neg, lt, le, eq, is_nan, fits}
 use lib.Ieee.Digits.{back}
 use lib.Ieee.Fits.{up_pos, down_pos}
 use lib.Ieee.Exact.{HasValue}
-use lib.Ieee.Compare.{differs_from_itself}
 use lib.Ieee.Nearest.{closest, closest_same, closest_mono}
 use lib.Ieee.Positive.{num, den, positive, den_pos, value→cross, positive_of_value, first_pos, cross→le}
 use Rattle.timestamp.specs.Answer.{taken, refused, from_seconds}
@@ -213,8 +212,8 @@ too_low (fin true m e) F a b =
 zero_units : (n d : ℕ) → 0 < d → n ≡ 0 → units_near n d ≡ 0
 zero_units n d D h = ap (λ (z : ℕ). closest (z * 2 ^ 32) d) h ∙ ap (λ (z : ℕ). closest z d) (sym (zero-mul d)) ∙ closest_whole 0 d D
 
-pub at_zero : (y : Float) → T (not (lt zero64 y)) → T (not (lt y zero64)) → T (not (ne y y)) → taken (pos 0) ≡ from_seconds y
-unfolding lt ne eq from_seconds
+pub at_zero : (y : Float) → T (not (lt zero64 y)) → T (not (lt y zero64)) → T (not (is_nan y)) → taken (pos 0) ≡ from_seconds y
+unfolding lt eq is_nan from_seconds
 at_zero nan a b c = absurd c
 at_zero (inf true) a b c = absurd b
 at_zero (inf false) a b c = absurd a
@@ -227,6 +226,8 @@ at_zero (fin true m e) a b c = simp (zero_units (m * up e) (down e) (down_pos e)
     go : (n d : ℕ) → n * 1 + 0 * d ≤ 0 → n ≡ 0
     go n d h = omega arith
 
-pub at_nan : (y : Float) → T (ne y y) → refused 15 ≡ from_seconds y
-unfolding from_seconds
-at_nan y h = ap from_seconds (sym (differs_from_itself y h))
+pub at_nan : (y : Float) → T (is_nan y) → refused 15 ≡ from_seconds y
+unfolding is_nan from_seconds
+at_nan nan h = refl
+at_nan (inf s) h = absurd h
+at_nan (fin s m e) h = absurd h

@@ -10,8 +10,7 @@ pub mod Fade
 pub mod Drift
 pub mod Event
 pub mod Interval
--- How the code meets the definitions. Rate: number 1's rule. Checked: sums with a test first. Counts: cut and rounded frames. Fixed: seconds to units.
-pub mod Rate
-pub mod Checked
+-- How the code meets the definitions. Told: an answer that is no refusal. Counts: cut and rounded frames. Fixed: seconds to units.
+pub mod Told
 pub mod Counts
 pub mod Fixed

@@ -1,18 +1,30 @@
--- What each call of `timestamp` answers: a number of document 01 and a value. 0 is no refusal; the order is "Timestamps: 1, 15"; a refusal returns "zeros". Definitions only.
-use Rattle.std.specs.Prelude.{ℕ, ◌^◌, Bool, false, cond, ◌&&◌, ℤ, pos, ◌+ℤ◌, ◌-ℤ◌, ◌==◌, int_lt, nat_le, nat_lt, Float}
+-- What each call of `timestamp` answers: a number of document 01 and a value. 0 is no refusal; the order is "Timestamps: 1, 15"; a refusal returns "zeros". `told` and `told_float` have the number and the value of each case of what the code answers. Definitions only.
+use Rattle.std.specs.Prelude.{ℕ, ◌^◌, Bool, true, false, cond, ◌&&◌, ℤ, pos, ◌+ℤ◌, ◌-ℤ◌, ◌==◌, int_lt, nat_le, nat_lt, Float, ◌≡◌, Result, Ok, Err}
 use Rattle.std.proofs.Math.Option.{Option, none, some}
 use Rattle.std.specs.Int.Signed.{mag}
 use Rattle.std.specs.Float.{fin, binary64}
 use Rattle.std.specs.Float.Ieee.{mul, div, of_int}
 use Rattle.std.specs.Float.Ieee.Scale.{finite}
 use Rattle.std.specs.Float.Ieee.Positive.{positive}
-use Rattle.timestamp.specs.declared.TimeAnswer.{TimeAnswer}
-use Rattle.timestamp.specs.declared.FloatAnswer.{FloatAnswer}
-use Rattle.timestamp.specs.declared.Order.{Order}
-use Rattle.timestamp.specs.declared.Order.TheVariants.{Less, Equal, Greater}
+use Rattle.std.specs.declared.cmp.Ordering.{Ordering}
+use Rattle.std.specs.declared.cmp.Ordering.TheVariants.{Less, Equal, Greater}
+use Rattle.laws.specs.declared.Refusal.{Refusal}
+use Rattle.laws.specs.declared.Refusal.TheVariants.{Rate as ARate}
+use Rattle.laws.specs.Rules.{number_of}
+use Rattle.timestamp.specs.declared.Timestamp.{Timestamp}
+use Rattle.timestamp.specs.declared.rate.Rate.{Rate}
 use Rattle.timestamp.specs.Time.{units_of, seconds, frames_of, frequency}
 
 -- ---- the shape of an answer
+
+-- a number and a time; a number and a count of samples or beats
+pub record TimeAnswer : Type 0 where
+  pub number : ℕ
+  pub time : Timestamp
+
+pub record FloatAnswer : Type 0 where
+  pub number : ℕ
+  pub value : Float
 
 abbrev pub taken : ℤ → TimeAnswer
 taken z = record { number = 0; time = record { bits = z } }
@@ -26,11 +38,23 @@ counted x = record { number = 0; value = x }
 abbrev pub uncounted : ℕ → FloatAnswer
 uncounted n = record { number = n; value = fin false 0 (pos 0) }
 
+abbrev pub told : Result Timestamp Refusal → TimeAnswer
+told (Ok t) = record { number = 0; time = t }
+told (Err r) = refused (number_of r)
+
+abbrev pub told_float : Result Float Refusal → FloatAnswer
+told_float (Ok x) = counted x
+told_float (Err r) = uncounted (number_of r)
+
 -- ---- the two rules
 
 -- 1: "rate out of range", which is "8,000 to 96,000"
 abbrev pub in_rate : ℕ → Bool
 in_rate R = nat_le 8000 R && nat_le R 96000
+
+abbrev pub RateOf : ℕ → Result Rate Refusal → Type 0
+RateOf R (Ok r) = (in_rate R ≡ true) × (r.hertz ≡ R)
+RateOf R (Err e) = (in_rate R ≡ false) × (e ≡ ARate)
 
 -- 15: "a result .. that doesn't fit 64 signed bits": -2 ^ 63 to 2 ^ 63 - 1 do, and `mag z` is z from 0 on, and -(z + 1) below
 abbrev pub fits64 : ℤ → Bool
@@ -49,7 +73,7 @@ made (some z) = taken z
 
 -- ---- the calls, in the order of `timestamp.rs`
 
-abbrev pub order : ℤ → ℤ → Order
+abbrev pub order : ℤ → ℤ → Ordering
 order a b = cond (int_lt a b) Less (cond (int_lt b a) Greater Equal)
 
 abbrev pub minus : ℤ → ℤ → TimeAnswer

@@ -1,5 +1,5 @@
 // timestamp.rs: time as a signed number of units of 2^-32 seconds, the Rust's `I32F32`, and its
-// conversions. Every method is total: where document 01 refuses, the answer has its number and zeros.
+// conversions. Every method is total: where document 01 refuses, the answer is an `Err`, and `told` has its number.
 // The free functions at the end are T, S and S's two roundings, for the layers above: they ask for a
 // rate in range, and the layers call nothing else to go between times and frames.
 #![tactic(auto)]
@@ -12,50 +12,18 @@ ghost use Rattle.std.specs.Float.Ieee.Nearest.{closest};
 ghost use Rattle.std.specs.Float.Ieee.Scale.{finite};
 ghost use Rattle.timestamp.specs.declared.Timestamp.{Timestamp};
 ghost use Rattle.timestamp.specs.Time.{seconds, frames_of, floor_of, round_of, frame_at, frame_near, time_of};
-ghost use Rattle.timestamp.specs.Answer.{in_rate, refused, order, minus, plus, from_seconds, from_samples, from_beats, as_samples, as_beats, moved_by, incremented_by_samples, incremented_by_seconds, incremented_by_beats};
+ghost use Rattle.timestamp.specs.Answer.{told, told_float, order, minus, plus, from_seconds, from_samples, from_beats, as_samples, as_beats, moved_by, incremented_by_samples, incremented_by_seconds, incremented_by_beats};
 
-#[derive(Clone, Copy)]
+use laws::Refusal;
+use std::cmp::Ordering;
+
+mod rate;
+
+pub use rate::Rate;
+
+#[derive(Clone, Copy, Debug, PartialEq, Eq, PartialOrd, Ord)]
 pub struct Timestamp {
     pub bits: i64,
-}
-
-// A time, and 0, or the number of a refusal and the time 0.
-#[derive(Clone, Copy)]
-pub struct TimeAnswer {
-    pub number: u8,
-    pub time: Timestamp,
-}
-
-// A number of samples or beats, and 0, or the number of a refusal and 0.0.
-#[derive(Clone, Copy)]
-pub struct FloatAnswer {
-    pub number: u8,
-    pub value: f64,
-}
-
-#[derive(Clone, Copy)]
-pub enum Order {
-    Less,
-    Equal,
-    Greater,
-}
-
-// ---- the two rules of document 01
-
-// Number 1 is for the other rates.
-fn in_rate(rate: usize) -> bool
-    ensures { result ≡ in_rate rate }
-{
-    (8000 <= rate) & (rate <= 96000)
-}
-
-fn refusal(number: u8) -> TimeAnswer
-    ensures { result ≡ refused number }
-{
-    TimeAnswer {
-        number,
-        time: Timestamp { bits: 0 },
-    }
 }
 
 // ---- floats and whole numbers
@@ -67,19 +35,13 @@ fn to_seconds(t: i64) -> f64
     std::num::nearest_i64_to_f64(t) / 4294967296.0
 }
 
-// z, which is above zero, rounded to the nearest whole number, a tie to the even one. Below 2^52 the
-// sum with 2^52 is that rounding, since from there to 2^53 an f64 is a whole number. From 2^52 on z
-// is whole.
+// z, which is above zero, rounded to the nearest whole number, a tie to the even one.
 fn nearest_whole(z: f64) -> u64
     requires above_zero { T (positive z) }
     requires below_limit { T (Ieee.lt z (fin false 1 (pos 64))) }
     ensures { result ≡ closest (num z) (den z) }
 {
-    if z < 4503599627370496.0 {
-        std::num::truncating_f64_to_u64(z + 4503599627370496.0) - 4503599627370496
-    } else {
-        std::num::truncating_f64_to_u64(z)
-    }
+    std::num::truncating_f64_to_u64(z.round_ties_even())
 }
 
 // a seconds, above zero and at most 2^31, in units. The product is exact.
@@ -91,18 +53,15 @@ fn to_units(a: f64) -> u64
     nearest_whole(a * 4294967296.0)
 }
 
-// -n.
+// -n. The cast of 2^63 is -2^63, whose negation wraps to itself.
 fn negative(n: u64) -> i64
     requires { n ≤ 2 ^ 63 }
     ensures { result ≡ neg_ℤ (pos n) }
 {
-    if n == 0 {
-        return 0;
-    }
-    -1 - ((n - 1) as i64)
+    n.cast_signed().wrapping_neg()
 }
 
-// A number of frames below 2^64 without its fraction; 0 for a negative one.
+// A number of frames below 2^64 without its fraction; 0 for a negative one: document 01's, and std's cast asks for more than -1.
 fn whole_part(x: f64) -> usize
     requires { T (Ieee.lt x (fin false 1 (pos 64))) }
     ensures { result ≡ floor_of x }
@@ -114,131 +73,50 @@ fn whole_part(x: f64) -> usize
     }
 }
 
-// A number of frames below 2^52 rounded, a half away from zero; 0 for a negative one. Twice x is
-// exact, and its whole part halved upwards is the rounding.
+// A number of frames below 2^52 rounded, a half away from zero; 0 for a negative one.
 fn half_away(x: f64) -> usize
     requires { T (Ieee.lt x (fin false 1 (pos 52))) }
     ensures { result ≡ round_of x }
 {
-    let u = whole_part(x * 2.0);
-    u / 2 + u % 2
+    whole_part(x.round())
 }
 
 // Whether x is finite and above zero.
 fn above_zero(x: f64) -> bool
     ensures { result ≡ positive x }
 {
-    if x > 0.0 { x < 1.0 / 0.0 } else { false }
-}
-
-// Whether x is finite.
-fn is_finite(x: f64) -> bool
-    ensures { result ≡ finite x }
-{
-    if x < 1.0 / 0.0 { x > -1.0 / 0.0 } else { false }
-}
-
-// ---- sums, with a test first, since a sum that does not fit is no value
-
-fn sum_of(a: i64, b: i64) -> TimeAnswer
-    ensures { result ≡ plus a b }
-{
-    if b >= 0 {
-        if a <= 9223372036854775807 - b {
-            TimeAnswer {
-                number: 0,
-                time: Timestamp { bits: a + b },
-            }
-        } else {
-            refusal(15)
-        }
-    } else {
-        if a >= -9223372036854775808 - b {
-            TimeAnswer {
-                number: 0,
-                time: Timestamp { bits: a + b },
-            }
-        } else {
-            refusal(15)
-        }
-    }
-}
-
-fn difference_of(a: i64, b: i64) -> TimeAnswer
-    ensures { result ≡ minus a b }
-{
-    if b >= 0 {
-        if a >= -9223372036854775808 + b {
-            TimeAnswer {
-                number: 0,
-                time: Timestamp { bits: a - b },
-            }
-        } else {
-            refusal(15)
-        }
-    } else {
-        if a <= 9223372036854775807 + b {
-            TimeAnswer {
-                number: 0,
-                time: Timestamp { bits: a - b },
-            }
-        } else {
-            refusal(15)
-        }
-    }
-}
-
-// t moved by an answered time; a refusal goes through.
-fn moved_by(t: Timestamp, step: TimeAnswer) -> TimeAnswer
-    ensures { result ≡ moved_by t.bits step }
-{
-    if step.number == 0 {
-        let by = step.time;
-        t.add(by)
-    } else {
-        step
-    }
+    x > 0.0 && x.is_finite()
 }
 
 // ---- timestamp.rs
 
 impl Timestamp {
-    pub fn cmp(self, other: Timestamp) -> Order
+    // Beside the derived one, whose clauses are its trait's: the promise is `order`.
+    pub fn cmp(self, other: Timestamp) -> Ordering
         ensures { result ≡ order self.bits other.bits }
     {
-        let a = self.bits;
-        let b = other.bits;
-        if a < b {
-            Order::Less
-        } else if b < a {
-            Order::Greater
-        } else {
-            Order::Equal
-        }
+        self.bits.cmp(&other.bits)
     }
 
+    // rawdio's name for the derived order's `<`.
     pub fn is_before(self, other: Timestamp) -> bool
         ensures { result ≡ int_lt self.bits other.bits }
     {
-        let a = self.bits;
-        let b = other.bits;
-        a < b
+        self < other
     }
 
-    pub fn sub(self, other: Timestamp) -> TimeAnswer
-        ensures { result ≡ minus self.bits other.bits }
+    pub fn sub(self, other: Timestamp) -> Result<Timestamp, Refusal>
+        ensures { told result ≡ minus self.bits other.bits }
     {
-        let a = self.bits;
-        let b = other.bits;
-        difference_of(a, b)
+        let bits = self.bits.checked_sub(other.bits).ok_or(Refusal::NoResult)?;
+        Ok(Timestamp { bits })
     }
 
-    pub fn add(self, other: Timestamp) -> TimeAnswer
-        ensures { result ≡ plus self.bits other.bits }
+    pub fn add(self, other: Timestamp) -> Result<Timestamp, Refusal>
+        ensures { told result ≡ plus self.bits other.bits }
     {
-        let a = self.bits;
-        let b = other.bits;
-        sum_of(a, b)
+        let bits = self.bits.checked_add(other.bits).ok_or(Refusal::NoResult)?;
+        Ok(Timestamp { bits })
     }
 
     pub fn zero() -> Timestamp
@@ -259,57 +137,40 @@ impl Timestamp {
         self.bits
     }
 
-    pub fn from_seconds(y: f64) -> TimeAnswer
-        ensures { result ≡ from_seconds y }
+    pub fn from_seconds(y: f64) -> Result<Timestamp, Refusal>
+        ensures { told result ≡ from_seconds y }
     {
         if y > 0.0 {
             if y < 2147483648.0 {
                 let n = to_units(y);
-                TimeAnswer {
-                    number: 0,
-                    time: Timestamp { bits: n as i64 },
-                }
-            } else {
-                refusal(15)
+                return Ok(Timestamp { bits: n as i64 });
             }
         } else if y < 0.0 {
             if y >= -2147483648.0 {
                 let n = negative(to_units(-y));
-                TimeAnswer {
-                    number: 0,
-                    time: Timestamp { bits: n },
-                }
-            } else {
-                refusal(15)
+                return Ok(Timestamp { bits: n });
             }
-        } else if y != y {
-            refusal(15)
-        } else {
-            TimeAnswer {
-                number: 0,
-                time: Timestamp { bits: 0 },
-            }
+        } else if !y.is_nan() {
+            return Ok(Timestamp { bits: 0 });
         }
+        Err(Refusal::NoResult)
     }
 
-    pub fn from_samples(samples: f64, rate: usize) -> TimeAnswer
-        ensures { result ≡ from_samples samples rate }
+    #[tactic(auto, unfolding(crate::specs::Answer::from_samples))]
+    pub fn from_samples(samples: f64, rate: usize) -> Result<Timestamp, Refusal>
+        ensures { told result ≡ from_samples samples rate }
     {
-        if in_rate(rate) {
-            Timestamp::from_seconds(samples / (rate as f64))
-        } else {
-            refusal(1)
-        }
+        let rate = Rate::try_from(rate)?;
+        Timestamp::from_seconds(samples / (rate.hertz as f64))
     }
 
-    pub fn from_beats(beats: f64, tempo: f64) -> TimeAnswer
-        ensures { result ≡ from_beats beats tempo }
+    pub fn from_beats(beats: f64, tempo: f64) -> Result<Timestamp, Refusal>
+        ensures { told result ≡ from_beats beats tempo }
     {
-        if above_zero(tempo) {
-            Timestamp::from_seconds(beats / (tempo / 60.0))
-        } else {
-            refusal(15)
+        if !above_zero(tempo) {
+            return Err(Refusal::NoResult);
         }
+        Timestamp::from_seconds(beats / (tempo / 60.0))
     }
 
     pub fn as_seconds(self) -> f64
@@ -318,87 +179,66 @@ impl Timestamp {
         to_seconds(self.bits)
     }
 
-    pub fn as_samples(self, rate: usize) -> FloatAnswer
-        ensures { result ≡ as_samples self.bits rate }
+    #[tactic(auto, unfolding(crate::specs::Answer::as_samples))]
+    pub fn as_samples(self, rate: usize) -> Result<f64, Refusal>
+        ensures { told_float result ≡ as_samples self.bits rate }
     {
-        if in_rate(rate) {
-            FloatAnswer {
-                number: 0,
-                value: frames_of(self, rate),
-            }
-        } else {
-            FloatAnswer {
-                number: 1,
-                value: 0.0,
-            }
+        let rate = Rate::try_from(rate)?;
+        Ok(frames_of(self, rate.hertz))
+    }
+
+    pub fn as_beats(self, tempo: f64) -> Result<f64, Refusal>
+        ensures { told_float result ≡ as_beats self.bits tempo }
+    {
+        if !above_zero(tempo) {
+            return Err(Refusal::NoResult);
         }
-    }
-
-    pub fn as_beats(self, tempo: f64) -> FloatAnswer
-        ensures { result ≡ as_beats self.bits tempo }
-    {
-        let t = self.bits;
-        if above_zero(tempo) {
-            let b = to_seconds(t) * (tempo / 60.0);
-            if is_finite(b) {
-                FloatAnswer {
-                    number: 0,
-                    value: b,
-                }
-            } else {
-                FloatAnswer {
-                    number: 15,
-                    value: 0.0,
-                }
-            }
-        } else {
-            FloatAnswer {
-                number: 15,
-                value: 0.0,
-            }
+        let beats = to_seconds(self.bits) * (tempo / 60.0);
+        if !beats.is_finite() {
+            return Err(Refusal::NoResult);
         }
+        Ok(beats)
     }
 
-    pub fn incremented_by_samples(self, count: usize, rate: usize) -> TimeAnswer
-        ensures { result ≡ incremented_by_samples self.bits count rate }
+    #[tactic(auto, unfolding(crate::specs::Answer::incremented_by_samples))]
+    pub fn incremented_by_samples(self, count: usize, rate: usize) -> Result<Timestamp, Refusal>
+        ensures { told result ≡ incremented_by_samples self.bits count rate }
     {
-        let frames = std::num::nearest_u64_to_f64(count as u64);
-        moved_by(self, Timestamp::from_samples(frames, rate))
+        let frames = std::num::nearest_usize_to_f64(count);
+        self.add(Timestamp::from_samples(frames, rate)?)
     }
 
-    pub fn incremented_by_seconds(self, y: f64) -> TimeAnswer
-        ensures { result ≡ incremented_by_seconds self.bits y }
+    #[tactic(auto, unfolding(crate::specs::Answer::incremented_by_seconds))]
+    pub fn incremented_by_seconds(self, y: f64) -> Result<Timestamp, Refusal>
+        ensures { told result ≡ incremented_by_seconds self.bits y }
     {
-        moved_by(self, Timestamp::from_seconds(y))
+        self.add(Timestamp::from_seconds(y)?)
     }
 
-    pub fn incremented_by_beats(self, beats: f64, tempo: f64) -> TimeAnswer
-        ensures { result ≡ incremented_by_beats self.bits beats tempo }
+    #[tactic(auto, unfolding(crate::specs::Answer::incremented_by_beats))]
+    pub fn incremented_by_beats(self, beats: f64, tempo: f64) -> Result<Timestamp, Refusal>
+        ensures { told result ≡ incremented_by_beats self.bits beats tempo }
     {
-        moved_by(self, Timestamp::from_beats(beats, tempo))
+        self.add(Timestamp::from_beats(beats, tempo)?)
     }
 }
 
 // ---- T, S and S's roundings, for the layers above
 
 // T of a whole number of frames.
-pub fn time_of(frames: usize, rate: usize) -> Timestamp
-    requires slow { 8000 ≤ rate }
-    requires fast { rate ≤ 96000 }
-    requires few { frames ≤ 2 ^ 40 }
-    ensures { result.bits ≡ time_of rate frames }
+pub fn time_of(frames: usize, rate: Rate) -> Timestamp
+    requires { frames ≤ 2 ^ 40 }
+    ensures { result.bits ≡ time_of rate.hertz frames }
 {
-    let made = Timestamp::from_seconds((frames as f64) / (rate as f64));
-    made.time
+    Timestamp::from_seconds((frames as f64) / (rate.hertz as f64)).unwrap()
 }
 
-// S.
+// S. A rate is a number here and below: a `Rate` would ask for 8,000 too, which these never did.
 pub fn frames_of(t: Timestamp, rate: usize) -> f64
     requires { rate ≤ 96000 }
     ensures { result ≡ frames_of rate t.bits }
 {
-    let bits = t.bits;
-    to_seconds(bits) * (rate as f64)
+    to_seconds(t.bits) * (rate as f64)
 }
 
 // The floor of S.

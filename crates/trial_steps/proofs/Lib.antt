@@ -1,2 +1,2 @@
--- Stepped: how a step's parts add up to it.
+-- Stepped: what the calls of a step make of the leg, and what its byte says.
 pub mod Stepped

@@ -1,30 +1,31 @@
--- A step from its parts: one that is malformed, one that is taken, and what came before it left the leg.
--- The idea: whether there is more tells the two apart. Assumes nothing.
-use Rattle.std.proofs.Common.{◌≡◌, ℕ, ◌≤◌, true, List, sym, refl, ap, ◌∙◌, subst, ap₂, true≢false}
+-- The next step from its parts: what its calls make of the leg, and what its byte says.
+-- The idea: a leg that a call hands back follows; where the byte was held before the buffer was filled, nothing moved. Assumes nothing.
+use Rattle.std.proofs.Common.{◌≡◌, ℕ, ◌≤◌, List, ℤ, sym, ◌∙◌, subst, ap₂}
+use lib.Ieee.{Float}
 use Rattle.buffered.specs.declared.input.Input.{Input}
 use Rattle.buffered.specs.Input.{held, number_at, Filled}
 use Rattle.sampler_processor.specs.declared.Leg.{Leg}
-use Rattle.trial_steps.specs.declared.at.At.{At}
-use Rattle.trial_steps.specs.Places.{ended_by}
-use Rattle.trial_steps.specs.Follows.{Follows, Stepped}
+use Rattle.sampler_player.specs.Pieces.{Lent}
+use Rattle.sampler_processor.specs.Calls.{LegAnswer, submit, Rendered, render}
+use Rattle.trial_steps.specs.Follows.{Follows, told, rendered, once_more, Next}
 
-pub stopped : (kind fault begins : ℕ) (a r : At) → r ≡ ended_by fault begins a → Stepped kind a r
-stopped kind fault begins a r e =
-    subst (Stepped kind a) (sym e) (record { ends = λ h. refl; goes = λ h. absurd (true≢false (sym h)) })
+-- ---- what `submit` and `render` hand back
 
-pub went : (kind : ℕ) (a r : At) (l : Leg) → r.more ≡ true → r.leg ≡ l → Follows a.leg kind l → Stepped kind a r
-went kind a r l more is f =
-    record { ends = λ h. absurd (true≢false (sym more ∙ h)); goes = λ h. subst (Follows a.leg kind) (sym is) f }
+pub told_to : (l : Leg) (bytes : List ℕ) (a : LegAnswer) → a ≡ submit l bytes → Follows l 1 a.leg
+told_to l bytes a e = subst (λ (x : LegAnswer). Follows l 1 x.leg) (sym e) (told bytes)
 
-pub after : (kind : ℕ) (a b r : At) → b.leg ≡ a.leg → Stepped kind b r → Stepped kind a r
-after kind a b r is s = record { ends = λ h. s.ends h ∙ is; goes = λ h. subst (λ (l : Leg). Follows l kind r.leg) is (s.goes h) }
+pub rendered_by : (l : Leg) (b : Lent) (xs : List Float) (start : ℤ) (r : Rendered) → r ≡ render l b xs start → Follows l 2 r.answer.leg
+rendered_by l b xs start r e = subst (λ (x : Rendered). Follows l 2 x.answer.leg) (sym e) (rendered b xs start)
+
+pub rendered_again : (l m : Leg) (b : Lent) (xs : List Float) (start : ℤ) (r : Rendered) → r ≡ render m b xs start → Follows l 4 m → Follows l 4 r.answer.leg
+rendered_again l m b xs start r e f = subst (λ (x : Rendered). Follows l 4 x.answer.leg) (sym e) (once_more b xs start f)
 
 -- ---- the step's byte
 
--- k is what it says, where it was held before the buffer was filled
+-- k is what the byte says, where it was held before the buffer was filled
 pub says : (s t : List ℕ) (i j : Input) (k n : ℕ) → n ≡ k → n ≡ number_at t j 0 1 → Filled 1 s i t j → 1 ≤ held i → k ≡ number_at s i 0 1
 says s t i j k n is read f h =
     sym is ∙ read ∙ ap₂ (λ (x : List ℕ) (y : Input). number_at x y 0 1) (f.at_once h).0 (f.at_once h).1
 
-pub no_more : {X : Type 0} (fault begins : ℕ) (a r : At) → r ≡ ended_by fault begins a → r.more ≡ true → X
-no_more fault begins a r e h = absurd (true≢false (sym h ∙ ap (λ (x : At). x.more) e))
+pub next : (s t : List ℕ) (i j : Input) (a r : Leg) (k n : ℕ) → Filled 1 s i t j → n ≡ number_at t j 0 1 → n ≡ k → Follows a k r → Next s i a r
+next s t i j a r k n f read is h = record { kind = k; follows = h; byte = says s t i j k n is read f }

@@ -2,6 +2,7 @@
 // stands in a file no contract can say: they say what becomes of the leg.
 #![tactic(auto)]
 
-pub mod at;
 mod run;
-pub mod steps;
+mod steps;
+
+pub use steps::{Malformed, Trial, numbered};

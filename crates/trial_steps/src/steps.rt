@@ -1,167 +1,144 @@
 // The four steps.
-ghost use Rattle.std.specs.Prelude.{◌≡◌, ◌≤◌, length};
-ghost use Rattle.trial_steps.specs.Places.{ended_by};
-ghost use Rattle.trial_steps.specs.Follows.{Stepped, Taken};
+ghost use Rattle.std.specs.Prelude.{◌≡◌, ◌≤◌, length, IfErr, IsNone, IsSome};
+ghost use Rattle.buffered.specs.Input.{place, Filled};
+ghost use Rattle.sampler_processor.specs.Calls.{leg_answer, told};
+ghost use Rattle.trial_steps.specs.Follows.{Follows, Next, Taken};
 
-use crate::at::At;
-use crate::run::{Asked, Blocks};
-use crate::{at, run};
-use buffered::input::Input;
-use buffered::output::Output;
-use buffered::{input, output};
+use crate::run::{Asked, Blocks, run};
+use buffered::{Reader, Writer};
+use laws::Refused;
+use sampler_player::Lent;
+use sampler_processor::Leg;
 
-// The step's byte, at which it begins, is the next one.
-fn malformed(at: At) -> At
-    ensures { result ≡ ended_by 2 at.begins at }
-{
-    at::ended(at, 2, at.begins)
+// What a file has in the place of a trial or a step, and the byte at which that begins.
+#[derive(Clone, Copy, Debug, PartialEq, Eq)]
+pub enum Malformed {
+    Trial(u64),
+    Step(u64),
 }
+
+// What a trial's blocks are lent, how many channels their output has, and the leg as it stands.
+#[derive(Clone, Copy)]
+pub struct Trial<'a> {
+    pub recording: &'a [f32],
+    pub table: &'a [f32],
+    pub channels: usize,
+    pub leg: Leg,
+}
+
+// The next n bytes, where the file has them.
+fn hold(reader: &mut Reader, n: usize) -> Option<()>
+    ensures { Filled n reader.old.bytes reader.old.input reader.new.bytes reader.new.input }
+{
+    reader.fill(n);
+    reader.holds(n).then_some(())
+}
+
+// The number of an answer, and the leg that it hands back.
+pub fn numbered(answer: Result<Leg, Refused<Leg>>) -> (u8, Leg)
+    ensures { leg_answer result.0 result.1 ≡ told answer }
+{
+    match answer {
+        Ok(leg) => (0, leg),
+        Err(refused) => (u8::from(refused.refusal), refused.kept),
+    }
+}
+
+// `reader`, `writer` and `entries` go side by side: a struct of the three borrows would be made anew for each step.
+
+// Each step leaves its leg where the one before it stood, and a call of its own: handed on as a value, or compiled into its
+// caller, a Result's leg is copied word by word at each turn, and 16 commands take up to three times as long.
 
 // ---- step 1
 
-// The bytes of a step whose record has n; one that is too long is not read.
-fn command_bytes(n: usize) -> usize {
-    if n <= 64 { n + 3 } else { 3 }
-}
-
-fn command(source: &mut [u8; 65536], sink: &mut [u8; 65536], at: At) -> At
-    ensures { Stepped 1 at result }
+#[inline(never)]
+fn command(reader: &mut Reader, writer: &mut Writer, leg: &mut Leg) -> Option<()>
+    ensures ends { IsNone result → leg.new ≡ leg.old }
+    ensures goes { IsSome result → Follows leg.old 1 leg.new }
 {
-    let from = at.input;
-    let head = input::filled(source, from, 3);
-    let n = input::count(source, head, 1, 2);
-    let all = command_bytes(n);
-    let whole = input::filled(source, head, all);
-    if (64 < n) | !input::holds(whole, all) {
-        return malformed(at);
+    hold(reader, 3)?;
+    let n = reader.count(1, 2);
+    if 64 < n {
+        return None;
     }
-    let leg = at.leg;
-    let answer = leg.submit(input::part(source, whole, 3, n));
-    let next = answer.leg;
-    let before = at.output;
-    let numbered = output::put(sink, before, 1, answer.number as u64);
-    at::closed(
-        sink,
-        at::read(at, input::passed(whole, all)),
-        numbered,
-        next,
-    )
+    hold(reader, n + 3)?;
+    let number = match leg.submit(reader.part(3, n)) {
+        Ok(next) => {
+            *leg = next;
+            0
+        }
+        Err(refused) => {
+            *leg = refused.kept;
+            u8::from(refused.refusal)
+        }
+    };
+    reader.pass(n + 3);
+    writer.put(1, u64::from(number));
+    Some(())
 }
 
 // ---- step 2
 
-// A step of n bytes, of which the last tell how many.
-fn asked_at(source: &mut [u8; 65536], from: Input, n: usize, last: usize) -> Asked
+// A step whose last bytes, so many, tell how many.
+fn asked(reader: &mut Reader, last: usize) -> Option<Asked>
     requires { last ≤ 8 }
 {
-    let head = input::filled(source, from, n);
-    Asked {
-        good: input::holds(head, n),
-        input: input::passed(head, n),
-        start: input::time(source, head, 1),
-        frames: input::count(source, head, 9, 2),
-        count: input::count(source, head, 11, last),
-    }
+    hold(reader, 11 + last)?;
+    let asked = Asked {
+        start: reader.time(1),
+        frames: reader.count(9, 2),
+        count: reader.count(11, last),
+    };
+    reader.pass(11 + last);
+    Some(asked)
 }
 
-fn put_heard(
-    sink: &mut [u8; 65536],
-    to: Output,
-    number: u8,
-    pieces: usize,
-    entries: &[f32],
-) -> Output {
-    let numbered = output::put(sink, to, 1, number as u64);
-    let counted = output::put(sink, numbered, 8, pieces as u64);
-    output::put_floats(sink, counted, entries)
-}
-
-// The block's answer, with its entries.
-fn render(
-    sink: &mut [u8; 65536],
-    rec: &[f32],
-    table: &[f32],
-    entries: &mut [f32],
-    at: At,
-    asked: Asked,
-) -> At
-    ensures { Stepped 2 at result }
-{
-    let leg = at.leg;
-    let start = asked.start;
-    let answer = leg.render(rec, table, at.channels, asked.frames, entries, start);
-    let next = answer.leg;
-    let before = at.output;
-    let heard = put_heard(sink, before, answer.number, answer.pieces, entries);
-    at::closed(sink, at, heard, next)
-}
-
-// The entries that the output holds before, and then the block.
-fn over(
-    source: &mut [u8; 65536],
-    sink: &mut [u8; 65536],
-    rec: &[f32],
-    table: &[f32],
-    entries: &mut [f32],
-    at: At,
-    asked: Asked,
-) -> At
-    ensures { Stepped 2 at result }
-{
-    let from = at.input;
-    let read = input::read_floats(source, from, entries);
-    let input = read.input;
-    if !read.whole {
-        return malformed(at);
-    }
-    render(sink, rec, table, entries, at::read(at, input), asked)
-}
-
+// Over the entries that the output holds before.
 fn block(
-    source: &mut [u8; 65536],
-    sink: &mut [u8; 65536],
-    rec: &[f32],
-    table: &[f32],
+    reader: &mut Reader,
+    writer: &mut Writer,
     entries: &mut [f32],
-    at: At,
-) -> At
-    ensures { Stepped 2 at result }
+    lent: Lent,
+    leg: &mut Leg,
+) -> Option<()>
+    ensures ends { IsNone result → leg.new ≡ leg.old }
+    ensures goes { IsSome result → Follows leg.old 2 leg.new }
 {
-    let from = at.input;
-    let asked = asked_at(source, from, 13, 2);
-    let next = asked.input;
-    let m = asked.count;
-    if asked.good {
-        if m <= entries.len() {
-            return over(
-                source,
-                sink,
-                rec,
-                table,
-                &mut entries[..m],
-                at::read(at, next),
-                asked,
-            );
+    let asked = asked(reader, 2)?;
+    let entries = entries.get_mut(..asked.count)?;
+    reader.read_floats(entries).then_some(())?;
+    let block = Lent {
+        block: asked.frames,
+        ..lent
+    };
+    let (number, pieces) = match leg.render(block, entries, asked.start) {
+        Ok(rendered) => {
+            *leg = rendered.leg;
+            (0, rendered.pieces)
         }
-    }
-    malformed(at)
+        Err(refused) => {
+            *leg = refused.kept;
+            (u8::from(refused.refusal), 0)
+        }
+    };
+    writer.put(1, u64::from(number));
+    writer.put(8, pieces as u64);
+    writer.put_floats(entries);
+    Some(())
 }
 
 // ---- step 3
 
-fn placed(source: &mut [u8; 65536], sink: &mut [u8; 65536], at: At) -> At
-    ensures { Stepped 3 at result }
+#[inline(never)]
+fn placed(reader: &mut Reader, writer: &mut Writer, leg: &mut Leg) -> Option<()>
+    ensures ends { IsNone result → leg.new ≡ leg.old }
+    ensures goes { IsSome result → Follows leg.old 3 leg.new }
 {
-    let from = at.input;
-    let head = input::filled(source, from, 491);
-    let read = leg_bytes::read(input::part(source, head, 1, 490));
-    if !read.good {
-        return malformed(at);
-    }
-    let next = read.leg;
-    let before = at.output;
-    let numbered = output::put(sink, before, 1, 0);
-    at::closed(sink, at::read(at, input::passed(head, 491)), numbered, next)
+    hold(reader, 491)?;
+    *leg = leg_bytes::read(reader.part(1, 490))?;
+    reader.pass(491);
+    writer.put(1, 0);
+    Some(())
 }
 
 // ---- step 4
@@ -171,98 +148,81 @@ fn entries_of(channels: usize, block: usize) -> usize
     requires { block ≤ 4096 }
     ensures { result ≤ 8192 }
 {
-    if channels == 1 {
-        return block;
+    match channels {
+        1 => block,
+        2 => 2 * block,
+        _ => 0,
     }
-    if channels == 2 {
-        return 2 * block;
-    }
-    0
 }
 
-fn put_blocks(sink: &mut [u8; 65536], to: Output, done: Blocks) -> Output {
-    let numbered = output::put(sink, to, 1, done.number as u64);
-    let rendered = output::put(sink, numbered, 8, done.blocks);
-    let counted = output::put(sink, rendered, 8, done.pieces);
-    output::put(sink, counted, 8, done.sum)
-}
-
-// The run's answer.
-fn sum_up(
-    sink: &mut [u8; 65536],
-    rec: &[f32],
-    table: &[f32],
-    entries: &mut [f32],
-    at: At,
-    asked: Asked,
-) -> At
-    requires { length entries.old ≤ 65536 }
-    ensures { Stepped 4 at result }
-{
-    let leg = at.leg;
-    let done = run::run(leg, rec, table, at.channels, entries, asked);
-    let next = done.leg;
-    let before = at.output;
-    let summed = put_blocks(sink, before, done);
-    at::closed(sink, at, summed, next)
+fn put_blocks(writer: &mut Writer, done: Blocks) {
+    writer.put(1, u64::from(done.refusal.map_or(0, u8::from)));
+    writer.put(8, done.blocks);
+    writer.put(8, done.pieces);
+    writer.put(8, done.sum);
 }
 
 fn blocks(
-    source: &mut [u8; 65536],
-    sink: &mut [u8; 65536],
-    rec: &[f32],
-    table: &[f32],
+    reader: &mut Reader,
+    writer: &mut Writer,
     entries: &mut [f32],
-    at: At,
-) -> At
-    ensures { Stepped 4 at result }
+    lent: Lent,
+    leg: &mut Leg,
+) -> Option<()>
+    ensures ends { IsNone result → leg.new ≡ leg.old }
+    ensures goes { IsSome result → Follows leg.old 4 leg.new }
 {
-    let from = at.input;
-    let asked = asked_at(source, from, 15, 4);
-    let next = asked.input;
-    let frames = asked.frames;
-    if asked.good {
-        if frames <= 4096 {
-            let n = entries_of(at.channels, frames);
-            if n <= entries.len() {
-                return sum_up(
-                    sink,
-                    rec,
-                    table,
-                    &mut entries[..n],
-                    at::read(at, next),
-                    asked,
-                );
-            }
-        }
+    let asked = asked(reader, 4)?;
+    if 4096 < asked.frames {
+        return None;
     }
-    malformed(at)
+    let n = entries_of(lent.channels, asked.frames);
+    let done = run(lent, entries.get_mut(..n)?, asked, leg);
+    put_blocks(writer, done);
+    Some(())
 }
 
 // ---- any step
 
-pub fn step(
-    source: &mut [u8; 65536],
-    sink: &mut [u8; 65536],
-    rec: &[f32],
-    table: &[f32],
-    entries: &mut [f32],
-    at: At,
-) -> At
-    ensures { Taken source.old at result }
-{
-    let from = at.input;
-    let head = input::filled(source, from, 1);
-    let kind = input::number(source, head, 0, 1);
-    let begun = at::begun(at, head);
-    if !input::holds(head, 1) {
-        return malformed(begun);
+impl Trial<'_> {
+    // The next step, which is answered but for the leg.
+    fn next(&mut self, reader: &mut Reader, writer: &mut Writer, entries: &mut [f32]) -> Option<()>
+        ensures ends { IsNone result → self.new.leg ≡ self.old.leg }
+        ensures goes { IsSome result → Next reader.old.bytes reader.old.input self.old.leg self.new.leg }
+        ensures lent_kept { (self.new.recording ≡ self.old.recording) × (self.new.table ≡ self.old.table) × (self.new.channels ≡ self.old.channels) }
+    {
+        hold(reader, 1)?;
+        let lent = Lent {
+            recording: self.recording,
+            table: self.table,
+            channels: self.channels,
+            block: 0,
+        };
+        match reader.number(0, 1) {
+            1 => command(reader, writer, &mut self.leg),
+            2 => block(reader, writer, entries, lent, &mut self.leg),
+            3 => placed(reader, writer, &mut self.leg),
+            4 => blocks(reader, writer, entries, lent, &mut self.leg),
+            _ => None,
+        }
     }
-    match kind {
-        1 => command(source, sink, begun),
-        2 => block(source, sink, rec, table, entries, begun),
-        3 => placed(source, sink, begun),
-        4 => blocks(source, sink, rec, table, entries, begun),
-        _ => malformed(begun),
+
+    // The next step. One that is malformed leaves the leg.
+    #[inline(never)]
+    pub fn step(
+        &mut self,
+        reader: &mut Reader,
+        writer: &mut Writer,
+        entries: &mut [f32],
+    ) -> Result<(), Malformed>
+        ensures taken { Taken reader.old.bytes reader.old.input self.old.leg result self.new.leg }
+        ensures lent_kept { (self.new.recording ≡ self.old.recording) × (self.new.table ≡ self.old.table) × (self.new.channels ≡ self.old.channels) }
+        ensures place { IfErr result (λ e. e ≡ Malformed.Step (place reader.old.input)) }
+    {
+        let begins = reader.offset();
+        let next = self.next(reader, writer, entries);
+        next.ok_or(Malformed::Step(begins))?;
+        writer.put_bytes(&leg_bytes::bytes_of(self.leg));
+        Ok(())
     }
 }

@@ -7,9 +7,10 @@ mod calls;
 mod queue;
 mod row;
 
-use queue::{Judged, State};
+use queue::State;
 use row::Row;
 
+// What can't be written is lost. The kit's `io` reads and writes: std's would have us trust `lseek` and `errno` too.
 const STDOUT: i32 = 1;
 
 // The rows of one op: how many, and how many of them differ.
@@ -19,53 +20,37 @@ struct Count {
     differ: u64,
 }
 
-fn counted(counts: [Count; 64], op: usize, same: bool) -> [Count; 64] {
-    let mut out = counts;
-    if op < 64 {
-        let c = out[op];
-        out[op] = Count {
-            rows: std::num::wrapping_add_u64(c.rows, 1),
-            differ: std::num::wrapping_add_u64(c.differ, (!same) as u64),
-        };
+impl Count {
+    fn add(&mut self, same: bool) {
+        self.rows = self.rows.wrapping_add(1);
+        self.differ = self.differ.wrapping_add(u64::from(!same));
     }
-    out
 }
 
-fn print_count(op: usize, c: Count) {
-    if c.rows == 0 {
-        return;
-    }
+fn print_count(op: u64, count: Count) {
     io::write_all(STDOUT, b"op ");
-    io::print_hex(STDOUT, op as u64, 2);
+    io::print_hex(STDOUT, op, 2);
     io::write_all(STDOUT, b": ");
-    io::print_decimal(STDOUT, c.rows);
+    io::print_decimal(STDOUT, count.rows);
     io::write_all(STDOUT, b" compared, ");
-    io::print_decimal(STDOUT, c.differ);
+    io::print_decimal(STDOUT, count.differ);
     io::write_all(STDOUT, b" differ\n");
 }
 
-fn print_counts(counts: [Count; 64]) {
-    let mut op = 0;
-    while op < 64 {
-        print_count(op, counts[op]);
-        op += 1;
+fn print_counts(counts: &[Count; 64]) {
+    for (op, count) in counts.iter().enumerate() {
+        if count.rows != 0 {
+            print_count(op as u64, *count);
+        }
     }
 }
 
 // Whether the port's answer is the row's.
-fn called(r: Row) -> bool {
-    let got = calls::answer(r);
-    (got.number == r.number) & (got.result == r.result)
-}
-
-fn judged(state: State, r: Row) -> Judged {
+fn judged(state: &mut State, r: Row) -> bool {
     if 48 <= r.op {
-        queue::replay(state, r)
+        state.replay(r)
     } else {
-        Judged {
-            same: called(r),
-            state,
-        }
+        calls::answer(r) == (r.number, r.result)
     }
 }
 
@@ -79,39 +64,28 @@ fn print_first(text: &[u8; 74]) {
     io::write_all(STDOUT, text);
 }
 
-// Whether the row is a comment.
-fn is_comment(text: &[u8; 74]) -> bool {
-    text[0] == b'#'
-}
-
 fn main() {
-    let none = Count { rows: 0, differ: 0 };
-    let mut counts = [none; 64];
+    let mut counts = [Count { rows: 0, differ: 0 }; 64];
     let mut text = [0u8; 74];
-    let mut state = queue::fresh(0, 0);
+    let mut state = State::new(0, 0);
     let mut shown = false;
     // a limit, since every loop ends
-    let mut left: u64 = 1_000_000_000;
-    while 0 < left {
-        left -= 1;
+    for _ in 0..1_000_000_000u64 {
         if !read_row(&mut text) {
             break;
         }
-        if is_comment(&text) {
+        if text[0] == b'#' {
             continue;
         }
         let r = row::row_of(&text);
-        let got = judged(state, r);
-        let same = got.same;
-        let held = got.state;
-        state = held;
-        let op = r.op;
-        let next = counted(counts, op as usize, same);
-        counts = next;
+        let same = judged(&mut state, r);
+        if let Some(count) = counts.get_mut(r.op as usize) {
+            count.add(same);
+        }
         if !same & !shown {
             print_first(&text);
             shown = true;
         }
     }
-    print_counts(counts);
+    print_counts(&counts);
 }

@@ -1,39 +1,15 @@
 // The ops of the command queue. Its state goes from row to row: a row 30 starts it anew, a row 31 is
 // a command, a row 32 takes the first event before an end.
-ghost use Rattle.std.specs.Prelude.{◌≤◌};
-
 use crate::row::Row;
-use event_processor::{First, Queue};
-use sampler_event::{Event, EventAnswer, Kind};
-use timestamp::Timestamp;
+use event_processor::Queue;
+use laws::Refusal;
+use sampler_event::{Event, Limits, Record, time_from as time};
 
-#[derive(Clone, Copy)]
+#[derive(Drop)]
 pub struct State {
     pub rate: u64,
     pub fade: u64,
     pub queue: Queue,
-}
-
-// Whether the port's answer is the row's, and the state for the next row.
-#[derive(Clone, Copy)]
-pub struct Judged {
-    pub same: bool,
-    pub state: State,
-}
-
-// The state with this queue.
-fn held(same: bool, state: State, queue: Queue) -> Judged {
-    let next = State {
-        rate: state.rate,
-        fade: state.fade,
-        queue,
-    };
-    Judged { same, state: next }
-}
-
-pub fn fresh(rate: u64, fade: u64) -> State {
-    let queue = Queue::empty();
-    State { rate, fade, queue }
 }
 
 // ---- the command
@@ -49,90 +25,84 @@ fn record(r: Row) -> [u8; 64] {
 }
 
 // The rows keep to records of at most 64 bytes.
-fn answered(r: Row, rate: usize, fade: usize) -> EventAnswer
-    requires fast { rate ≤ 96000 }
-    requires fade_bound { fade ≤ 4800 }
-{
+fn commanded(r: Row, limits: Limits) -> Result<Event, Refusal> {
     let bytes = record(r);
     let length = (r.result / 65536) as usize;
-    if 64 < length {
-        return sampler_event::command(&bytes, rate, fade);
-    }
-    sampler_event::command(&bytes[..length], rate, fade)
-}
-
-// `command` asks for a rate and a fade length in range, and no row has others.
-fn commanded(state: State, r: Row) -> Judged {
-    let rate = state.rate;
-    let fade = state.fade;
-    let queue = state.queue;
-    if 96000 < rate {
-        return held(false, state, queue);
-    }
-    if 4800 < fade {
-        return held(false, state, queue);
-    }
-    let asked = answered(r, rate as usize, fade as usize);
-    if asked.number != 0 {
-        return held(asked.number as u64 == r.number, state, queue);
-    }
-    let event = asked.event;
-    let received = queue.receive(event);
-    let next = received.queue;
-    held(received.number as u64 == r.number, state, next)
+    sampler_event::command(bytes.get(..length).unwrap_or(&bytes), limits)
 }
 
 // ---- the first event before an end
 
-fn is_bits(t: Timestamp, bits: u64) -> bool {
-    words::signed_bits(t.as_raw_i64()) == bits
-}
-
-fn no_points(r: Row) -> bool {
-    (r.b == 0) & (r.c == 0)
-}
-
-// Whether the kind and its positions are the row's.
-fn is_kind(kind: Kind, r: Row) -> bool {
-    match kind {
-        Kind::Start(position) => (r.number == 1) & is_bits(position, r.b) & (r.c == 0),
-        Kind::StartImmediate => (r.number == 2) & no_points(r),
-        Kind::Stop => (r.number == 3) & no_points(r),
-        Kind::EnableLoop(start, end) => (r.number == 4) & is_bits(start, r.b) & is_bits(end, r.c),
-        Kind::CancelLoop => (r.number == 5) & no_points(r),
-        Kind::CancelAll => (r.number == 6) & no_points(r),
+// What the row says of it: none, or an event. A row that says neither has no answer.
+fn expected(r: Row) -> Option<Option<Event>> {
+    if (r.number == 0) & (r.b == 0) & (r.c == 0) & (r.result == 0) {
+        return Some(None);
     }
+    let record = Record {
+        kind: u16::try_from(r.number).ok()?,
+        time: time(r.result),
+        first: time(r.b),
+        second: time(r.c),
+    };
+    let event = Event::try_from(record).ok()?;
+    Some(Some(event))
 }
 
-fn is_event(event: Event, r: Row) -> bool {
-    let kind = event.get_event_type();
-    is_kind(kind, r) & is_bits(event.get_time(), r.result)
-}
+// ---- the state
 
-fn is_first(first: First, r: Row) -> bool {
-    match first {
-        First::Nothing => (r.number == 0) & no_points(r) & (r.result == 0),
-        First::Due(event) => is_event(event, r),
+impl State {
+    pub fn new(rate: u64, fade: u64) -> State {
+        State {
+            rate,
+            fade,
+            queue: Queue::empty(),
+        }
     }
-}
 
-fn taken(state: State, r: Row) -> Judged {
-    let queue = state.queue;
-    let got = queue.next_event_before(Timestamp::from_raw_i64(sampler_event::as_i64(r.a)));
-    let first = got.first;
-    let next = got.queue;
-    held(is_first(first, r), state, next)
-}
+    // The limits of a command, where the row's rate and fade length are in range: no row has others.
+    fn limits(&self) -> Option<Limits> {
+        if (96000 < self.rate) | (4800 < self.fade) {
+            return None;
+        }
+        Some(Limits {
+            rate: self.rate as usize,
+            fade: self.fade as usize,
+        })
+    }
 
-pub fn replay(state: State, r: Row) -> Judged {
-    let op = r.op;
-    match op {
-        48 => Judged {
-            same: (r.number == 0) & (r.result == 0),
-            state: fresh(r.a, r.b),
-        },
-        49 => commanded(state, r),
-        50 => taken(state, r),
-        _ => Judged { same: false, state },
+    fn enter(&mut self, r: Row, limits: Limits) -> Result<(), Refusal> {
+        let event = commanded(r, limits)?;
+        self.queue = self.queue.receive(event).map_err(|full| full.refusal)?;
+        Ok(())
+    }
+
+    fn command(&mut self, r: Row) -> bool {
+        let Some(limits) = self.limits() else {
+            return false;
+        };
+        let number = match self.enter(r, limits) {
+            Ok(()) => 0,
+            Err(refusal) => u8::from(refusal),
+        };
+        u64::from(number) == r.number
+    }
+
+    fn take(&mut self, r: Row) -> bool {
+        let taken = self.queue.next_event_before(time(r.a));
+        self.queue = taken.queue;
+        expected(r) == Some(taken.first)
+    }
+
+    // Plays a row: whether the port's answer is the row's.
+    pub fn replay(&mut self, r: Row) -> bool {
+        match r.op {
+            48 => {
+                *self = State::new(r.a, r.b);
+                (r.number == 0) & (r.result == 0)
+            }
+            49 => self.command(r),
+            50 => self.take(r),
+            _ => false,
+        }
     }
 }

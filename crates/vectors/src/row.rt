@@ -1,4 +1,4 @@
-// A row of the list: an op, three arguments, the answer's number and its result, in lower-case hex.
+// A row of the list, as it stands there, an op and an answer by their numbers: an op, three arguments, the answer's number and its result, in lower-case hex.
 
 #[derive(Clone, Copy)]
 pub struct Row {

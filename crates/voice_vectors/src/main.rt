@@ -6,9 +6,11 @@
 mod piece;
 mod row;
 
-use row::Row;
+use piece::Buffers;
+use row::{Op, Row};
 use sampler_voice::Voice;
 
+// What can't be written is lost. The kit's `io` reads and writes: std's would have us trust `lseek` and `errno` too.
 const STDOUT: i32 = 1;
 
 // The piece at hand and the count of those before it.
@@ -21,60 +23,38 @@ struct Run {
     differ: u64,
 }
 
-// A piece differs once, however many of its rows do.
-fn judged(run: Run, same: bool) -> Run {
-    let new = run.good & !same;
-    let voice = run.voice;
-    Run {
-        voice,
-        good: run.good & same,
-        pieces: run.pieces,
-        rows: std::num::wrapping_add_u64(run.rows, 1),
-        differ: std::num::wrapping_add_u64(run.differ, new as u64),
-    }
-}
-
-fn begun(run: Run, voice: Voice, taken: bool) -> Run {
-    Run {
-        voice,
-        good: taken,
-        pieces: std::num::wrapping_add_u64(run.pieces, 1),
-        rows: run.rows,
-        differ: std::num::wrapping_add_u64(run.differ, (!taken) as u64),
-    }
-}
-
-fn step(rec: &mut [f32; 128], fade: &mut [f32; 16], out: &mut [f32; 128], r: Row, run: Run) -> Run {
-    let op = r.op;
-    match op {
-        0x40 => piece::set(rec, r),
-        0x41 => piece::set(fade, r),
-        0x42 => piece::set(out, r),
-        0x43 => {
-            let done = piece::render(out, rec, fade, piece::asked_by(r));
-            return begun(run, done.voice, done.taken);
+impl Run {
+    // A piece differs once, however many of its rows do.
+    fn judged(self, same: bool) -> Run {
+        Run {
+            good: self.good && same,
+            rows: self.rows.wrapping_add(1),
+            differ: self.differ.wrapping_add(u64::from(self.good && !same)),
+            ..self
         }
-        0x44 => return judged(run, piece::is_voice(run.voice, r)),
-        0x45 => return judged(run, piece::holds(out, r)),
-        _ => return judged(run, false),
     }
-    run
-}
 
-// The next row, where a whole one is left.
-fn read_row(text: &mut [u8; 78]) -> bool {
-    io::read_full(0, text) == 78
-}
+    fn begun(self, rendered: Option<Voice>) -> Run {
+        Run {
+            voice: rendered.unwrap_or_default(),
+            good: rendered.is_some(),
+            pieces: self.pieces.wrapping_add(1),
+            differ: self.differ.wrapping_add(u64::from(rendered.is_none())),
+            ..self
+        }
+    }
 
-// Whether the row is a comment.
-fn is_comment(text: &[u8; 78]) -> bool {
-    text[0] == b'#'
-}
-
-fn print_if(first: bool, text: &[u8; 78]) {
-    if first {
-        io::write_all(STDOUT, b"differs first: ");
-        io::write_all(STDOUT, text);
+    fn step(self, buffers: &mut Buffers, row: Row) -> Run {
+        match row.op {
+            Op::Recording => piece::set(&mut buffers.recording, row),
+            Op::Fade => piece::set(&mut buffers.fade, row),
+            Op::Output => piece::set(&mut buffers.output, row),
+            Op::Render => return self.begun(buffers.render(row)),
+            Op::Voice => return self.judged(piece::is_voice(self.voice, row)),
+            Op::Heard => return self.judged(piece::holds(&buffers.output, row)),
+            Op::Unknown => return self.judged(false),
+        }
+        self
     }
 }
 
@@ -88,30 +68,34 @@ fn print_run(run: Run) {
 }
 
 fn main() {
-    let mut rec = [0.0f32; 128];
-    let mut fade = [0.0f32; 16];
-    let mut out = [0.0f32; 128];
     let mut text = [0u8; 78];
-    let voice = Voice::default();
+    let mut buffers = Buffers {
+        recording: [0.0; 128],
+        fade: [0.0; 16],
+        output: [0.0; 128],
+    };
     let mut run = Run {
-        voice,
+        voice: Voice::default(),
         good: true,
         pieces: 0,
         rows: 0,
         differ: 0,
     };
     // a limit, since every loop ends
-    let mut left: u64 = 1_000_000_000;
-    while 0 < left {
-        left -= 1;
-        if !read_row(&mut text) {
+    for _ in 0..1_000_000_000u64 {
+        // the rest is no whole row
+        if io::read_full(0, &mut text) < text.len() {
             break;
         }
-        if is_comment(&text) {
+        // a comment
+        if text[0] == b'#' {
             continue;
         }
-        let next = step(&mut rec, &mut fade, &mut out, row::row_of(&text), run);
-        print_if((run.differ == 0) & (0 < next.differ), &text);
+        let next = run.step(&mut buffers, Row::from(&text));
+        if run.differ == 0 && 0 < next.differ {
+            io::write_all(STDOUT, b"differs first: ");
+            io::write_all(STDOUT, &text);
+        }
         run = next;
     }
     print_run(run);

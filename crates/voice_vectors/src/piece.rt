@@ -1,121 +1,39 @@
 // A piece of the list: its buffers, its voice and what became of them.
-ghost use Rattle.std.specs.Prelude.{◌<◌, ◌≤◌};
+ghost use Rattle.std.specs.Prelude.{◌^◌, ◌<◌, ◌≤◌};
 
 use crate::row::Row;
-use sampler_voice::{Channels, Phase, Voice};
-
-fn wide(x: u32) -> usize {
-    x as usize
-}
-
-fn put(entries: &mut [f32], i: usize, x: f32) {
-    if i < entries.len() {
-        entries[i] = x;
-    }
-}
+use sampler_voice::{Channels, Phase, Source, Voice};
 
 // The row's floats, to the entries from its place on.
-pub fn set(entries: &mut [f32], r: Row) {
-    let at = r.at;
-    let bits = r.words;
-    let mut i = 0;
-    while i < 8 {
-        put(
-            entries,
-            std::num::wrapping_add_usize(at, i),
-            words::float(bits[i]),
-        );
-        i += 1;
-    }
-}
-
-fn is_at(entries: &[f32], i: usize, bits: u32) -> bool {
-    if i < entries.len() {
-        words::float_bits(entries[i]) == bits
-    } else {
-        false
+pub fn set(entries: &mut [f32], row: Row) {
+    for (entry, bits) in entries.iter_mut().skip(row.at).zip(row.words) {
+        *entry = words::float(bits);
     }
 }
 
 // Whether the entries from the row's place on are its floats.
-pub fn holds(entries: &[f32], r: Row) -> bool {
-    let at = r.at;
-    let bits = r.words;
-    let mut i = 0;
-    let mut same = true;
-    while i < 8 {
-        same = same & is_at(entries, std::num::wrapping_add_usize(at, i), bits[i]);
-        i += 1;
-    }
-    same
+pub fn holds(entries: &[f32], row: Row) -> bool {
+    entries
+        .iter()
+        .skip(row.at)
+        .take(row.words.len())
+        .map(|entry| words::float_bits(*entry))
+        .eq(row.words)
 }
 
-fn phase_of(kind: u32, i: usize) -> Phase {
-    match kind {
-        1 => Phase::FadingIn(i),
-        2 => Phase::Playing,
-        3 => Phase::FadingOut(i),
-        _ => Phase::Stopped,
+// The voice that a row names.
+fn voice_of(row: Row) -> Voice
+    ensures { result.position < 2 ^ 32 }
+{
+    Voice {
+        position: row.words[2] as usize,
+        phase: Phase::numbered(row.words[0].into(), row.words[1] as usize),
     }
 }
 
-// Whether the voice is the row's.
-pub fn is_voice(v: Voice, r: Row) -> bool {
-    let words = r.words;
-    let kind = words[0];
-    let i = wide(words[1]);
-    let position = wide(words[2]);
-    let phase = v.phase;
-    let same = match phase {
-        Phase::Stopped => kind == 0,
-        Phase::FadingIn(at) => (kind == 1) & (at == i),
-        Phase::Playing => kind == 2,
-        Phase::FadingOut(at) => (kind == 3) & (at == i),
-    };
-    same & (v.position == position)
-}
-
-#[derive(Clone, Copy)]
-pub struct Rendered {
-    pub taken: bool,
-    pub voice: Voice,
-}
-
-fn refused() -> Rendered {
-    Rendered {
-        taken: false,
-        voice: Voice::default(),
-    }
-}
-
-// What a row asks for.
-#[derive(Clone, Copy)]
-pub struct Asked {
-    pub voice: Voice,
-    pub rn: usize,
-    pub n: usize,
-    pub j: usize,
-    pub k: usize,
-    pub all: usize,
-    pub recording: usize,
-    pub output: usize,
-}
-
-pub fn asked_by(r: Row) -> Asked {
-    let words = r.words;
-    let phase = phase_of(words[0], wide(words[1]));
-    let position = wide(words[2]);
-    let voice = Voice { position, phase };
-    Asked {
-        voice,
-        rn: wide(words[3]),
-        n: wide(words[4]),
-        j: wide(words[5]),
-        k: wide(words[6]),
-        all: wide(words[7]),
-        recording: r.at / 16,
-        output: r.at % 16,
-    }
+// Whether the voice is the row's; no phase has a number above 3.
+pub fn is_voice(voice: Voice, row: Row) -> bool {
+    row.words[0] <= 3 && voice == voice_of(row)
 }
 
 // Two channels, or else one.
@@ -126,33 +44,30 @@ fn two_or_one(told: usize) -> usize
     if told == 2 { 2 } else { 1 }
 }
 
-// The piece; one that the buffers have no room for is refused.
-pub fn render(out: &mut [f32], rec: &[f32], fade: &[f32], a: Asked) -> Rendered {
-    let v = a.voice;
-    let n = a.n;
-    let all = a.all;
-    if out.len() / 2 < n {
-        return refused();
+// What the buffers of a piece hold.
+#[derive(Drop)]
+pub struct Buffers {
+    pub recording: [f32; 128],
+    pub fade: [f32; 16],
+    pub output: [f32; 128],
+}
+
+impl Buffers {
+    // The piece that the row asks for; one that the buffers have no room for is refused.
+    pub fn render(&mut self, row: Row) -> Option<Voice> {
+        let [_, _, _, frames, n, j, k, all] = row.words.map(|word| word as usize);
+        if 64 < frames || 64 < n || n < j || n - j < k {
+            return None;
+        }
+        let source = Source {
+            recording: &self.recording,
+            frames,
+            fade: self.fade.get(..all)?,
+            channels: Channels {
+                recording: two_or_one(row.at / 16),
+                output: two_or_one(row.at % 16),
+            },
+        };
+        Some(voice_of(row).render(&mut self.output, n, j, k, source))
     }
-    if rec.len() / 2 < a.rn {
-        return refused();
-    }
-    if fade.len() < all {
-        return refused();
-    }
-    if n < a.j {
-        return refused();
-    }
-    if n - a.j < a.k {
-        return refused();
-    }
-    if 0x1_0000_0000 <= v.position {
-        return refused();
-    }
-    let channels = Channels {
-        recording: two_or_one(a.recording),
-        output: two_or_one(a.output),
-    };
-    let voice = v.render(out, n, a.j, a.k, rec, a.rn, &fade[..all], channels);
-    Rendered { taken: true, voice }
 }

@@ -13,7 +13,7 @@ use lib.Signed.{lt_z}
 use lib.Ieee.{Float}
 use Rattle.laws.specs.Rules.{within, first_broken}
 use Rattle.sampler_event.specs.Limits.{admissible}
-use Rattle.sampler_event.proofs.Limits.{UpTo, within_up}
+use Rattle.sampler_event.proofs.UpTo.{UpTo, within_up}
 use Rattle.event_processor.specs.Queue.{pending, each}
 use Rattle.event_processor.proofs.Ordered.{Ordered, ordered}
 use Rattle.sampler_player.specs.declared.Setup.{Setup}

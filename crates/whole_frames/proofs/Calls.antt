@@ -11,9 +11,8 @@ use lib.IntN.{ℤ, pos, nat_abs}
 use lib.ListN.{length, length-append}
 use lib.Ieee.{Float}
 use Rattle.sampler_event.specs.declared.Event.{Event}
-use Rattle.sampler_event.specs.declared.EventAnswer.{EventAnswer}
 use Rattle.laws.specs.Rules.{first_broken}
-use Rattle.sampler_event.specs.Command.{command_answer}
+use Rattle.sampler_event.specs.Command.{EventAnswer, command_answer}
 use Rattle.event_processor.specs.declared.Queue.{Queue}
 use Rattle.event_processor.specs.Queue.{pending, without, received}
 use Rattle.sampler_player.specs.declared.Setup.{Setup}
@@ -23,8 +22,7 @@ use Rattle.sampler_processor.specs.declared.Leg.{Leg}
 use Rattle.sampler_processor.specs.Numbers.{sound, render_order}
 use Rattle.sampler_processor.specs.Block.{Running, Ended, is_taken, onward, block}
 use Rattle.sampler_processor.specs.Calls.{Rendered, leg_answer, entered_in, commanded, submit, rendered_to, rendered_by, render}
-use Rattle.whole_frames.specs.Run.{Told, nothing, told_of, past, Comes, at, on, Inside, Call, submitted, rendered, opening, told_by, told_at, leg_after, told_all, leg_after_all}
-use Rattle.whole_frames.specs.Run.{reported_at, reported_all, Midway, leg_rest, told_rest, call_of, told_from, reported_from}
+use Rattle.whole_frames.specs.Run.{Told, nothing, told_of, past, Comes, at, on, Inside, Call, submitted, rendered, opening, told_by, told_at, leg_after, told_all, leg_after_all, reported_at, reported_all, Midway, leg_rest, told_rest, call_of, told_from, reported_from}
 use Rattle.whole_frames.proofs.Accepted.{Accepted, accepted}
 use Rattle.whole_frames.proofs.Along.{Along, along_first, along_next}
 use Rattle.whole_frames.proofs.Blocks.{Moves, moves_then, moves_none, block_moves, inside_moves, block_count}

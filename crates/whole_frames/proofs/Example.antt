@@ -8,13 +8,13 @@ use lib.Dec.{eqb, T, lit≤}
 use lib.IntN.{pos}
 use lib.ListN.{replicate, take, drop, length}
 use lib.Ieee.{Float, binary32, of_bits, to_bits, of_int, div, add, mul, neg, le, round}
+use Rattle.std.specs.Prelude.{Some}
 use Rattle.timestamp.specs.Time.{time, time_of, seconds, frames_of, loop_end}
 use Rattle.sampler_fade.specs.Entry.{cleaned_fade, fade_at, none}
 use Rattle.sampler_voice.specs.Sound.{cleaned, fetched, added}
 use Rattle.sampler_voice.specs.Voices.{silent, started_at, settled, next_phase, faded, sounded, frame, frames, mix}
 use Rattle.sampler_event.specs.Limits.{event_fault, admissible}
 use Rattle.event_processor.specs.Queue.{empty_queue}
-use Rattle.sampler_player.specs.declared.Active.TheVariants.{Number}
 use Rattle.sampler_player.specs.declared.Points.TheVariants.{Between}
 use Rattle.sampler_player.specs.Assign.{stop, begin, assign_at}
 use Rattle.sampler_player.specs.Pieces.{Lent, end_of, interval, loop_back, rendered, caught_up, pass_of, pass, passes, segment, renderings}
@@ -58,7 +58,7 @@ leg =
       player =
           record {
             voices = started_at 0 ∷ silent ∷ [];
-            active = Number 0;
+            active = Some 0;
             points = Between (record { bits = pos 715828 }) (record { bits = pos 6442451 });
             position = record { bits = pos 0 };
             start = record { bits = pos 0 };

@@ -9,7 +9,7 @@ use Rattle.laws.proofs.Near.{Near}
 use Rattle.laws.proofs.Minus.{Minus, nat_minus}
 use Rattle.timestamp.specs.declared.Timestamp.{Timestamp}
 use Rattle.timestamp.proofs.Drift.{Drift}
-use Rattle.sampler_event.proofs.Limits.{within_up}
+use Rattle.sampler_event.proofs.UpTo.{within_up}
 use Rattle.sampler_player.specs.declared.Points.{Points}
 use Rattle.sampler_player.specs.declared.Points.TheVariants.{Absent, Between}
 use Rattle.sampler_player.specs.declared.Setup.{Setup}

@@ -1,11 +1,10 @@
 -- The second half: a run to which no event comes, the same in "whole-frame arithmetic", and the budget of pieces and loops within which they agree. Definitions only.
-use Rattle.std.specs.Prelude.{ℕ, zero, suc, ◌+◌, ◌-◌, ◌*◌, ◌/◌, ◌^◌, ◌≤◌, ◌<◌, ◌≡◌, List, [], ◌∷◌, ◌++◌, pos, nat_abs, ◌-ℤ◌, ◌*ℤ◌, ℤ, Float}
+use Rattle.std.specs.Prelude.{ℕ, zero, suc, ◌+◌, ◌-◌, ◌*◌, ◌/◌, ◌^◌, ◌≤◌, ◌<◌, ◌≡◌, List, [], ◌∷◌, ◌++◌, pos, nat_abs, ◌-ℤ◌, ◌*ℤ◌, ℤ, Float, Option}
 use Rattle.timestamp.specs.declared.Timestamp.{Timestamp}
 use Rattle.sampler_event.specs.declared.Event.{Event}
 use Rattle.laws.specs.Rules.{first_broken}
 use Rattle.event_processor.specs.Queue.{pending}
 use Rattle.sampler_voice.specs.declared.Voice.{Voice}
-use Rattle.sampler_player.specs.declared.Active.{Active}
 use Rattle.sampler_player.specs.declared.Points.{Points}
 use Rattle.sampler_player.specs.declared.Points.TheVariants.{Absent, Between}
 use Rattle.sampler_player.specs.declared.Setup.{Setup}
@@ -73,7 +72,7 @@ pub record Part : Type 0 where
 pub record Given : Type 0 where
   pub out : List Float
   pub voices : List Voice
-  pub active : Active
+  pub active : Option ℕ
   pub completed : ℕ
   pub pieces : List ℕ
 

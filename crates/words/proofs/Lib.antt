@@ -1,3 +1,3 @@
--- Laws of `words`. Floats: which bits and which floats are a NaN's, for both widths. Digits: one digit and one byte more.
+-- Laws of `words`. Floats: which bits are a NaN's, for both widths. Digits: digits put behind a number, and one byte more.
 pub mod Floats
 pub mod Digits

@@ -1,53 +1,31 @@
 -- `sampler_event::little` meets its contract.
--- The idea: `number` is that of the bytes from at + i on, which are n - i, and below 256 ^ (n - i). The measure is i. Assumes nothing.
-use Prim.Native.Nat.{◌+◌, ◌-◌, ◌^◌, ◌<◌}
-use mathlib.Core.Path.{◌≡◌, refl}
+-- The idea: `number` is that of the bytes past those that the iterator has left. Assumes nothing.
+use Prim.Native.Nat.{◌^◌, ◌<◌}
 use native.Mathlib.Omega.{arith}
-use lib.Dec.{lit<}
-use borrow.Author.Rules.{rules}
-use Rattle.sampler_event.proofs.Bytes.{turn, grows, seven}
+use Rattle.sampler_event.proofs.Bytes.{past_none, past_byte, past_one, past_below, past_all}
 use Rattle.sampler_event.proofs.little.Goals as goal
+use Rattle.sampler_event.proofs.little.Goals.{In-Some}
 
-pub loop-i-init : goal.loop-i-init
-loop-i-init c =
-    let r : c.args.n - c.args.n ≡ 0 = omega arith in
-    (search rules, (rw r refl, rw r (lit< tt)))
+pub loop-byte-init : goal.loop-byte-init
+loop-byte-init c = rw (c.into_iter-byte-iterator.ensures.into_iter_gives, c.rev-byte-items.ensures.source, c.iter.ensures.rest) (past_none c.args.bytes.now)
 
--- what was read before a turn is below 2 ^ 56
-before_turn : (c : goal.In-loop-i) → c.loop-i.number < 2 ^ 56
-before_turn c =
-    seven (c.args.n - c.loop-i.i) c.loop-i.number (omega arith) c.loop-i.invariant.1.1
+-- before a turn
+below : (c : In-Some) → c.loop-byte.number < 2 ^ 56
+below c = past_below c.args.bytes.now c.loop-byte.byte-iterator.iter.rest.now c.next.new.self.iter.rest.now c.loop-byte.number c.in-Some.byte.now c.in-Some.ensures.steps c.loop-byte.invariant c.requires
+
+byte : (c : In-Some) → c.in-Some.byte.now < 256
+byte c = past_byte c.args.bytes.now c.loop-byte.byte-iterator.iter.rest.now c.next.new.self.iter.rest.now c.loop-byte.number c.in-Some.byte.now c.in-Some.ensures.steps c.loop-byte.invariant c.type_inv.bytes
 
 pub overflow_mul-number : goal.overflow_mul-number
-overflow_mul-number c = let b = before_turn c in omega arith
-
-pub overflow_add-at : goal.overflow_add-at
-overflow_add-at c = omega (arith, c.well_formed.0.0)
+overflow_mul-number c = let b = below c in omega arith
 
 pub overflow_add-number : goal.overflow_add-number
-overflow_add-number c =
-    let b = seven (c.args.n - c.loop-i.i) c.loop-i.number (omega arith) c.loop-i.invariant.1.1 in
-    omega arith
+overflow_add-number c = let b = below (goal.at.overflow_add-number c).In-Some in let h = byte (goal.at.overflow_add-number c).In-Some in omega arith
 
-pub loop-i-preserved : goal.loop-i-preserved
-loop-i-preserved c =
-    let l = c.loop-i in
-    let a = c.args in
-    let t = c.loop-i-test.true in (
-      omega arith,
-      (
-        rw c.wide.ensures.0 (turn a.bytes.now a.at a.n l.i l.number t l.invariant.0 (omega arith) l.invariant.1.0),
-        grows a.n l.i l.number c.wide.result t l.invariant.0 l.invariant.1.1 c.wide.ensures.1,
-      ),
-    )
+pub loop-byte-preserved : goal.loop-byte-preserved
+loop-byte-preserved c = rw c.from.ensures (past_one c.args.bytes.now c.loop-byte.byte-iterator.iter.rest.now c.next.new.self.iter.rest.now c.loop-byte.number c.in-Some.byte.now c.in-Some.ensures.steps c.loop-byte.invariant (byte (goal.at.loop-byte-preserved c).In-Some))
 
 pub returns : goal.returns
 returns c =
-    let a = c.args in
-    let i = c.loop-i.i in
-    let n : a.n - i ≡ a.n = omega arith in
-    let p : a.at + i ≡ a.at = omega arith in
-    record {
-      value = rw (← n, ← p) c.loop-i.invariant.1.0;
-      bound = rw (← n) c.loop-i.invariant.1.1;
-    }
+    let p = past_all c.args.bytes.now c.loop-byte.byte-iterator.iter.rest.now c.loop-byte.number c.in-None.ensures.steps.0 c.loop-byte.invariant in
+    record { value = p.0; bound = p.1 }

@@ -1,15 +1,15 @@
 -- `sampler_fade::table_8000` meets its contract, and the table keeps the rule.
--- The idea: `bits_8000` gives the patterns and `fill` their floats; the test on the patterns is computed once. Assumes nothing.
-use borrow.Author.Rules.{rules}
+-- The idea: antt compares the source's constants with the definition's; the test on the patterns is computed once. Assumes nothing.
+use mathlib.Core.Path.{refl}
+use lib.Dec.{lit<}
+use Rattle.sampler_fade.specs.Bits.{bits8000}
 use Rattle.sampler_fade.proofs.FadeRule.{finite, made}
 use Rattle.sampler_fade.proofs.Table.{passes8000}
 use Rattle.sampler_fade.proofs.table_8000.Goals as goal
 
-pub fill-requires : goal.fill-requires
-fill-requires c = record { same_length = search rules; below_infinity = finite passes8000 c.bits_8000-bits.ensures }
-
 pub returns : goal.returns
-returns c = let whole = made passes8000 c.bits_8000-bits.ensures c.fill.ensures in
+unfolding bits8000
+returns c = let whole = made passes8000 refl c.floats.ensures in
     record {
       value = whole.0;
       fade_rule = whole.1;

@@ -1,5 +1,5 @@
 -- A block's state in the code as the definition has it. Definitions only.
-use Rattle.std.specs.Prelude.{ℕ, ◌-◌, ◌^◌, ◌≤◌, ◌≡◌, true, false, List, T, Float, ℤ, pos, neg_ℤ, ◌-ℤ◌}
+use Rattle.std.specs.Prelude.{ℕ, ◌*◌, ◌-◌, ◌^◌, ◌≤◌, ◌≡◌, true, false, List, T, length, Float, ℤ, pos, neg_ℤ, ◌-ℤ◌}
 use Rattle.laws.specs.Rules.{within}
 use Rattle.sampler_event.specs.declared.Event.{Event}
 use Rattle.sampler_event.specs.Limits.{positions_bad}
@@ -12,6 +12,19 @@ use Rattle.sampler_processor.specs.declared.block.Stand.{Stand}
 use Rattle.sampler_processor.specs.declared.block.BlockEnd.{BlockEnd}
 use Rattle.sampler_processor.specs.Block.{Running, Ended, frame_of, up_to}
 use Rattle.sampler_processor.specs.Calls.{Rendered}
+
+-- what numbers 1 to 5 leave of a leg's sizes and of what it is lent, but for the output's length
+pub record Lends (s : Setup) (b : Lent) : Type 0 where
+  pub slow : 8000 ≤ s.rate
+  pub fast : s.rate ≤ 96000
+  pub one : 1 ≤ s.channels
+  pub two : s.channels ≤ 2
+  pub short : s.frames ≤ 4194304
+  pub one_out : 1 ≤ b.channels
+  pub two_out : b.channels ≤ 2
+  pub block : b.block ≤ 4096
+  pub recording : length b.recording ≡ s.channels * s.frames
+  pub table : length b.table ≡ s.fade
 
 abbrev pub running : Stand → List Float → Running
 running a out = record { player = a.player; out = out; done = a.done; now = a.now.bits; pieces = a.pieces }

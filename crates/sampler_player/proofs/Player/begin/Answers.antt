@@ -1,24 +1,24 @@
 -- `sampler_player::Player::begin` meets its contract.
--- The idea: the code's tests are those of the list's two elements (`begin_two`). Assumes nothing.
-use mathlib.Core.Path.{◌≡◌, refl, sym, ◌∙◌}
-use lib.ListN.{length}
-use Rattle.sampler_player.proofs.Two.{begin_two}
+-- The idea: the code's test finds the definition's voice (`first_found`). Assumes nothing.
+use Prim.Native.Nat.{ℕ}
+use Rattle.std.specs.Prelude.{Option}
+use mathlib.Core.Path.{◌≡◌, sym, ap, ◌∙◌}
+use Rattle.std.proofs.Common.{rules, tests}
+use Rattle.std.proofs.lemmas.Iterator.{YieldsList-from_slice}
+use Rattle.std.proofs.lemmas.Iterator.Search.{position_from_yields_List}
+use Rattle.sampler_voice.specs.declared.Voice.{Voice}
+use Rattle.sampler_voice.specs.Voices.{is_stopped}
+use Rattle.sampler_player.specs.Assign.{first_stopped, voiced, start_in, begin}
+use Rattle.sampler_player.proofs.First.{first_found}
 use Rattle.sampler_player.proofs.Player.begin.Goals as goal
-
-pub returns-then-is_stopped : goal.returns-then-is_stopped
-returns-then-is_stopped c =
-    let p = c.args.self in
-    let l : length p.voices ≡ 2 = c.well_formed.0.1.1.0.1.0.1 in
-    c.with_voices.ensures ∙ rw c.start_from_position.ensures (sym (begin_two c.args.v p l ∙ rw (sym c.is_stopped.ensures ∙ c.if-is_stopped.true) refl))
-
-pub returns-then-is_stopped-2 : goal.returns-then-is_stopped-2
-returns-then-is_stopped-2 c =
-    let p = c.args.self in
-    let l : length p.voices ≡ 2 = c.well_formed.0.1.1.0.1.0.1 in
-    c.with_voices-then-is_stopped-2.ensures ∙ rw c.start_from_position-then-is_stopped-2.ensures (sym (begin_two c.args.v p l ∙ rw (sym c.is_stopped.ensures ∙ c.if-is_stopped.false, sym c.is_stopped-2.ensures ∙ c.if-is_stopped-2.true) refl))
+use Rattle.sampler_player.proofs.Player.begin.Goals.{in-Some, in_default}
 
 pub returns : goal.returns
+unfolding begin
 returns c =
-    let p = c.args.self in
-    let l : length p.voices ≡ 2 = c.well_formed.0.1.1.0.1.0.1 in
-    c.with_voices-2.ensures ∙ (sym (begin_two c.args.v p l ∙ rw (sym c.is_stopped.ensures ∙ c.if-is_stopped.false, sym c.is_stopped-2.ensures ∙ c.if-is_stopped-2.false) refl))
+    let vs = c.args.self.voices in
+    let e : c.position-active.result ≡ first_stopped vs = position_from_yields_List (λ (v : Voice). is_stopped v.phase) _ _ c.position-active.result c.position-active.ensures.ran (YieldsList-from_slice vs (cc)) (λ x b q k. search (rules, tests)) ∙ first_found vs in
+    elim c.match-active.branch [
+      | in-Some w ↦ rw (w.voices-is, w.active-is, w.start_from_position.ensures) (ap (λ (a : Option ℕ). voiced (start_in a c.args.v vs) a c.args.self) (sym w.in-Some.is ∙ e))
+      | in_default w ↦ rw (w.voices-is, w.active-is, w.in_default.is) (ap (λ (a : Option ℕ). voiced (start_in a c.args.v vs) a c.args.self) (sym w.in_default.is ∙ e))
+    ]

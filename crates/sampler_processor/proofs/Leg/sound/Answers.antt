@@ -1,42 +1,26 @@
 -- `sampler_processor::Leg::sound` meets its contract.
--- The idea: the parts are what the calls answer; sizes in range bound what `player_good` and `queue_good` ask; an empty queue is sound. Assumes nothing.
-use mathlib.Core.Path.{refl, sym, ◌∙◌}
-use Rattle.sampler_processor.specs.Numbers.{sound}
-use Rattle.sampler_processor.proofs.Legs.{none_waits}
-use Rattle.sampler_processor.proofs.Sizes.{sized}
+-- The idea: the parts are what the calls answer, and the sizes are in range exactly where making refuses none. Assumes nothing.
+use mathlib.Core.Path.{refl, sym, ap, ◌∙◌}
+use Rattle.sampler_player.specs.declared.Setup.{Setup}
+use Rattle.sampler_player.specs.Sound.{player_good}
+use Rattle.sampler_processor.specs.Numbers.{queue_good, sound}
+use Rattle.sampler_processor.proofs.Sizes.{sizes_taken, sizes_refused}
 use Rattle.sampler_processor.proofs.Leg.sound.Goals as goal
 
-pub returns-then-sizes_bad : goal.returns-then-sizes_bad
+pub returns-in_default : goal.returns-in_default
 unfolding sound
-returns-then-sizes_bad c = rw (sym c.sizes_bad.ensures ∙ c.if-sizes_bad.true) refl
+returns-in_default c = rw (sizes_refused c.args.self.now.setup c.in_default.field-0 c.in_default.ensures.0) refl
 
-pub player_good-requires : goal.player_good-requires
-player_good-requires c =
-    let z = sized c.args.self.setup (sym c.sizes_bad.ensures ∙ c.if-sizes_bad.false) in
-    record {
-      fast = z.rate_high;
-      fade_bound = z.fade_high;
-    }
-
-pub returns-then-not-player_good : goal.returns-then-not-player_good
+pub returns-then-player_good : goal.returns-then-player_good
 unfolding sound
-returns-then-not-player_good c = rw (sym c.sizes_bad.ensures ∙ c.if-sizes_bad.false, sym c.player_good.ensures ∙ c.if-not-player_good.true) refl
+returns-then-player_good c =
+    let l = c.args.self.now in
+    let is = c.in-Ok.ensures.1 in
+    rw (sizes_taken l.setup c.in-Ok.ensures.0, ap (λ (s : Setup). player_good s l.player) (sym is) ∙ sym c.player_good.ensures ∙ c.if-player_good.true)
+    (c.queue_good.ensures ∙ ap (λ (s : Setup). queue_good s l.queue) is)
 
-pub returns-then-self-eq0 : goal.returns-then-self-eq0
+pub returns-else-player_good : goal.returns-else-player_good
 unfolding sound
-returns-then-self-eq0 c =
-    let l = c.args.self in
-    rw (sym c.sizes_bad.ensures ∙ c.if-sizes_bad.false, sym c.player_good.ensures ∙ c.if-not-player_good.false, none_waits l.setup l.queue c.if-self-eq0.true) refl
-
-pub queue_good-requires : goal.queue_good-requires
-queue_good-requires c =
-    let z = sized c.args.self.setup (sym c.sizes_bad.ensures ∙ c.if-sizes_bad.false) in
-    record {
-      fast = z.rate_high;
-      fade_bound = z.fade_high;
-    }
-
-pub returns : goal.returns
-unfolding sound
-returns c =
-    rw (sym c.sizes_bad.ensures ∙ c.if-sizes_bad.false, sym c.player_good.ensures ∙ c.if-not-player_good.false, c.queue_good.ensures) refl
+returns-else-player_good c =
+    let l = c.args.self.now in
+    rw (sizes_taken l.setup c.in-Ok.ensures.0, ap (λ (s : Setup). player_good s l.player) (sym c.in-Ok.ensures.1) ∙ sym c.player_good.ensures ∙ c.if-player_good.false) c.if-player_good.false

@@ -1,26 +1,30 @@
 -- `sampler_voice::piece::render_in` meets its contract.
--- The idea: each way is one law of `Ways`: over, short or past the fade's end. Assumes nothing.
-use mathlib.Core.Path.{sym}
+-- The idea: each way is one law of `Ways`: short of the fade's end or past it. Assumes nothing.
+use mathlib.Core.Path.{◌≡◌, sym}
 use Prim.Native.Nat.{◌-◌}
 use native.Mathlib.Omega.{arith}
-use lib.ListN.{length}
-use Rattle.sampler_voice.proofs.Ways.{in_over, in_short, in_long}
+use Rattle.std.proofs.Common.{rules}
+use Rattle.sampler_voice.specs.declared.Phase.TheVariants.{Playing}
+use Rattle.sampler_voice.specs.inner.Run.{run}
+use Rattle.sampler_voice.proofs.Step.{plays}
+use Rattle.sampler_voice.proofs.Ways.{in_short, in_past}
 use Rattle.sampler_voice.proofs.piece.render_in.Goals as goal
-
-pub returns-then-all-i : goal.returns-then-all-i
-returns-then-all-i c =
-    let a = c.args in
-    rw c.render_playing.ensures (sym (in_over a.rec.now a.rn a.fade.now a.n a.channels a.i a.p a.j a.k a.out.now c.if-all-i.true c.requires.some_frames))
-
-pub returns-then-k-left : goal.returns-then-k-left
-returns-then-k-left c =
-    let a = c.args in
-    rw c.render_fade.ensures (sym (in_short a.rec.now a.rn a.fade.now a.n a.channels a.i a.p a.j a.k a.out.now (omega (arith, c.if-k-left.true))))
+use Rattle.sampler_voice.proofs.piece.render_in.Goals.{then-k-left, else-k-left}
 
 pub returns : goal.returns
+unfolding run
 returns c =
     let a = c.args in
-    let within = c.if-all-i.false in
-    let m = length a.fade.now - a.i in
-    rw (c.render_playing-2.ensures, c.render_fade-2.ensures)
-    (sym (in_long a.rec.now a.rn a.fade.now a.n a.channels a.i a.p a.j m a.k a.out.now within (omega (arith, within)) (omega (arith, c.if-k-left.false))))
+    let s = a.source in
+    let m = c.min-fading.result in
+    let rest = c.add_frames.ensures Playing (plays s.fade.now (a.k - m) _ (λ i q r l e. search rules)) in
+    elim c.if-k-left.branch [
+      | then-k-left w ↦
+          let e : m ≡ a.k = omega arith in
+          let none : a.k - m ≡ 0 = omega arith in
+          rw (w.phase-is, rest, none, c.fade_in.ensures, e)
+          (sym (in_short s.recording.now s.frames s.fade.now a.n s.channels a.i a.p a.j a.k a.out.now (omega arith)))
+      | else-k-left w ↦
+          rw (w.phase-is, rest, c.fade_in.ensures)
+          (sym (in_past s.recording.now s.frames s.fade.now a.n s.channels a.i a.p a.j m a.k a.out.now (omega arith) (omega arith) c.requires.some_frames))
+    ]

@@ -1,26 +1,22 @@
 -- `sampler_voice::piece::render_out` meets its contract.
--- The idea: each way is one law of `Ways`: over, short or past the fade's end. Assumes nothing.
-use mathlib.Core.Path.{sym}
-use Prim.Native.Nat.{◌-◌}
+-- The idea: each way is one law of `Ways`: short of the fade's end or past it. Assumes nothing.
+use mathlib.Core.Path.{◌≡◌, sym}
 use native.Mathlib.Omega.{arith}
-use lib.ListN.{length}
-use Rattle.sampler_voice.proofs.Ways.{out_over, out_short, out_long}
+use Rattle.sampler_voice.proofs.Ways.{out_short, out_past}
 use Rattle.sampler_voice.proofs.piece.render_out.Goals as goal
-
-pub returns-then-all-i : goal.returns-then-all-i
-returns-then-all-i c =
-    let a = c.args in
-    sym (out_over a.rec.now a.rn a.fade.now a.n a.channels a.i a.p a.j a.k a.out.now c.if-all-i.true c.requires.some_frames)
-
-pub returns-then-k-left : goal.returns-then-k-left
-returns-then-k-left c =
-    let a = c.args in
-    rw c.render_fade.ensures (sym (out_short a.rec.now a.rn a.fade.now a.n a.channels a.i a.p a.j a.k a.out.now (omega (arith, c.if-k-left.true))))
+use Rattle.sampler_voice.proofs.piece.render_out.Goals.{then-k-left, else-k-left}
 
 pub returns : goal.returns
 returns c =
     let a = c.args in
-    let within = c.if-all-i.false in
-    let m = length a.fade.now - a.i in
-    rw c.render_fade-2.ensures
-    (sym (out_long a.rec.now a.rn a.fade.now a.n a.channels a.i a.p a.j m a.k a.out.now within (omega (arith, within)) (omega (arith, c.if-k-left.false))))
+    let s = a.source in
+    let m = c.min-fading.result in
+    elim c.if-k-left.branch [
+      | then-k-left w ↦
+          let e : m ≡ a.k = omega arith in
+          rw (w.phase-is, c.fade_out.ensures, e)
+          (sym (out_short s.recording.now s.frames s.fade.now a.n s.channels a.i a.p a.j a.k a.out.now (omega arith)))
+      | else-k-left w ↦
+          rw (w.phase-is, c.fade_out.ensures)
+          (sym (out_past s.recording.now s.frames s.fade.now a.n s.channels a.i a.p a.j m a.k a.out.now (omega arith) (omega arith) c.requires.some_frames))
+    ]

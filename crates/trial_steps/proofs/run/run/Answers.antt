@@ -1,42 +1,35 @@
 -- `trial_steps::run::run` meets its contract: its leg is rendered block after block, and the bits that it sums are of no NaN.
 -- The idea: the entries are zeros before each block, and no sample that a leg renders is a NaN (`render_numbers`). Assumes nothing.
-use Rattle.std.proofs.Common.{ℕ, ◌-◌, ◌<◌, ◌≤◌, sym, refl, ap, ◌∙◌, subst, arith}
+use Rattle.std.proofs.Common.{ℕ, ◌<◌, replicate, sym, ap, subst, arith}
+use Rattle.std.proofs.lemmas.List.{get_or-replicate, length-replicate}
+use lib.Ieee.{nan, is_nan, of_bits, binary32}
+use Rattle.laws.proofs.NoNan.{Number}
 use Rattle.sampler_voice.proofs.NoNan.{Numbers}
 use Rattle.sampler_processor.specs.Calls.{Rendered}
 use Rattle.sampler_processor.proofs.NoNan.{render_numbers}
-use Rattle.trial_steps.specs.Follows.{Follows, none, once_more}
+use Rattle.trial_steps.specs.Follows.{none}
+use Rattle.trial_steps.proofs.Stepped.{rendered_again}
 use Rattle.trial_steps.proofs.run.run.Goals as goal
 
-less : (n m : ℕ) → 0 < n → m ≤ n - 1 → m < n
-less n m h k = omega arith
+zero_number : Number (of_bits binary32 0)
+unfolding is_nan of_bits
+zero_number = tt
 
-pub loop-left-init : goal.loop-left-init
-loop-left-init c = (refl, c.requires, none)
+zeros : (n : ℕ) → Numbers (replicate n (of_bits binary32 0))
+zeros n i h =
+    let k : i < n = simp length-replicate at h in
+    subst Number (sym (get_or-replicate n i (of_bits binary32 0) nan k)) zero_number
 
-pub bits_sum-requires : goal.bits_sum-requires
-bits_sum-requires c =
-    let r = c.render-last in
-    let z = c.clear in
-    let l = c.loop-left in
-    record {
-      length_bound = subst (λ (n : ℕ). n ≤ 65536) (sym (r.auto.out ∙ z.auto.entries ∙ l.invariant.0)) l.invariant.1;
-      numbers = subst Numbers (sym (ap (λ (x : Rendered). x.out) r.ensures)) (render_numbers _ _ _ _ z.ensures);
-    }
+pub loop-init : goal.loop-init
+loop-init c = (omega arith, none)
 
-pub overflow_sub-left : goal.overflow_sub-left
-overflow_sub-left c = c.loop-left-test.true
+pub bits_sum-requires-clause-numbers : goal.bits_sum-requires-clause-numbers
+bits_sum-requires-clause-numbers c =
+    let z = subst Numbers (sym (c.fill.ensures.after (λ y h. h))) (zeros _) in
+    subst Numbers (sym (ap (λ (x : Rendered). x.out) c.in-Ok.ensures)) (render_numbers _ _ _ _ z)
 
-pub loop-left-smaller : goal.loop-left-smaller
-loop-left-smaller c =
-    let left = c.loop-left.left in
-    less left c.to_come-left.result c.loop-left-test.true c.to_come-left.ensures
+pub loop-preserved : goal.loop-preserved
+loop-preserved c = (omega arith, rendered_again _ _ _ _ _ _ c.in-Ok.ensures c.loop.invariant.1)
 
-pub loop-left-preserved : goal.loop-left-preserved
-loop-left-preserved c =
-    let r = c.render-last in
-    let z = c.clear in
-    let l = c.loop-left in
-    (r.auto.out ∙ z.auto.entries ∙ l.invariant.0, l.invariant.1, subst (Follows _ 4) (sym (ap (λ (x : Rendered). x.answer.leg) r.ensures)) (once_more _ _ _ l.invariant.2))
-
-pub returns : goal.returns
-returns c = c.loop-left.invariant.2
+pub returns-in-Err : goal.returns-in-Err
+returns-in-Err c = rendered_again _ _ _ _ _ _ c.in-Err.ensures c.loop.invariant.1

@@ -1,15 +1,11 @@
--- `trial_steps::steps::block` is safe: the entries that are lent are within the array.
--- The idea: their number is tested. Assumes nothing.
-use Rattle.std.proofs.Common.{ap, arith, length-take}
-use Rattle.trial_steps.specs.declared.at.At.{At}
-use Rattle.trial_steps.proofs.Stepped.{stopped, after}
+-- `trial_steps::steps::block` meets its contract.
+-- The idea: the leg is what `render` hands back. Assumes nothing.
+use Rattle.trial_steps.proofs.Stepped.{rendered_by}
 use Rattle.trial_steps.proofs.steps.block.Goals as goal
+use Rattle.trial_steps.proofs.steps.block.Goals.{in-Ok, in-Err}
 
-pub slice_bounds-over-end-then-m-entries : goal.slice_bounds-over-end-then-m-entries
-slice_bounds-over-end-then-m-entries c = simp length-take (omega arith)
-
-pub returns-then-m-entries : goal.returns-then-m-entries
-returns-then-m-entries c = after 2 _ _ _ (ap (λ (a : At). a.leg) c.read.ensures) c.over.ensures
-
-pub returns : goal.returns
-returns c = stopped 2 _ _ _ _ c.malformed.ensures
+pub returns-clause-goes : goal.returns-clause-goes
+returns-clause-goes c = λ h. elim c.match-render.branch [
+  | in-Ok w ↦ rw w.leg-is (rendered_by _ _ _ _ _ w.in-Ok.ensures)
+  | in-Err w ↦ rw w.leg-is (rendered_by _ _ _ _ _ w.in-Err.ensures)
+]

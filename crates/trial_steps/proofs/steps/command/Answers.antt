@@ -1,13 +1,11 @@
 -- `trial_steps::steps::command` meets its contract.
--- The idea: a step that is malformed leaves the leg, and otherwise it is what `submit` hands back. Assumes nothing.
-use Rattle.std.proofs.Common.{ap, ◌∙◌}
-use Rattle.sampler_processor.specs.declared.LegAnswer.{LegAnswer}
-use Rattle.trial_steps.specs.Follows.{told}
-use Rattle.trial_steps.proofs.Stepped.{stopped, went}
+-- The idea: the leg is what `submit` hands back. Assumes nothing.
+use Rattle.trial_steps.proofs.Stepped.{told_to}
 use Rattle.trial_steps.proofs.steps.command.Goals as goal
+use Rattle.trial_steps.proofs.steps.command.Goals.{in-Ok, in-Err}
 
-pub returns-then-n-holds : goal.returns-then-n-holds
-returns-then-n-holds c = stopped 1 _ _ _ _ c.malformed.ensures
-
-pub returns : goal.returns
-returns c = went 1 _ _ _ c.closed.ensures.goes_on (c.closed.ensures.leg_kept ∙ ap (λ (a : LegAnswer). a.leg) c.submit-answer.ensures) (told _)
+pub returns-clause-goes : goal.returns-clause-goes
+returns-clause-goes c = λ h. elim c.match-submit.branch [
+  | in-Ok w ↦ rw w.leg-is (told_to _ _ _ w.in-Ok.ensures)
+  | in-Err w ↦ rw w.leg-is (told_to _ _ _ w.in-Err.ensures)
+]

@@ -1,9 +1,0 @@
--- `trial::main` is safe and ends.
--- The idea: the limit falls with each trial. Assumes nothing.
-use Rattle.trial.proofs.main.Given as goal
-
-abbrev pub invariant-loop-left : goal.invariant-loop-left
-invariant-loop-left l = Unit {0}
-
-abbrev pub decreases-loop-left : goal.decreases-loop-left
-decreases-loop-left l = l.left

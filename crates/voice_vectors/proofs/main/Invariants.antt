@@ -1,6 +1,0 @@
--- `voice_vectors::main` is safe and ends.
--- The idea: the limit falls with each row.
-use Rattle.voice_vectors.proofs.main.Given as goal
-
-abbrev pub decreases-loop-left : goal.decreases-loop-left
-decreases-loop-left l = l.left
