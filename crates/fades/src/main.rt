@@ -55,7 +55,8 @@ fn print(n: u64, width: usize) {
     io::write_all(STDOUT, b"\n");
 }
 
-// The number and the pieces of an answer, and the leg that goes on.
+// The number and the pieces of an answer, and the leg that goes on: much as in trial_steps, of which this program uses
+// nothing else.
 fn answered(answer: Result<Rendered, Refused<Leg>>) -> (u8, usize, Leg) {
     match answer {
         Ok(rendered) => (0, rendered.pieces, rendered.leg),

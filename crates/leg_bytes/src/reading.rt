@@ -1,5 +1,6 @@
 // A leg from its bytes, where they are one. `at` is at most 490 in the contracts, so that no place
 // passes 64 bits: a slice from there on would ask for its length instead.
+// Numbers by `as`: 64 bits are a usize's, and std has no `From` of it.
 ghost use Rattle.std.specs.Prelude.{◌≡◌, ◌<◌, ◌≤◌, nat_lt};
 ghost use Rattle.std.specs.Bool.{then_some};
 ghost use Rattle.leg_bytes.specs.Read.{time_at, setup_at, phase_of, phase_good, voice_at, active_of, points_at, player_at, kind_of, kind_good, event_at, blank_at, place_at, queue_at, leg_of};

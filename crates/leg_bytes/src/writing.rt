@@ -1,5 +1,6 @@
 // A leg as bytes. Each function stores one part of it at its place. `at` is at most 490 in the contracts, so that no place
 // passes 64 bits: a slice from there on would ask for its length instead.
+// Numbers by `as`: 64 bits are a usize's, and std has no `From` of it.
 ghost use Rattle.std.specs.Prelude.{◌≡◌, ◌<◌, ◌≤◌, ◌++◌};
 ghost use Rattle.std.proofs.lemmas.List.Edits.{sets};
 ghost use Rattle.leg_bytes.specs.Write.{u64, i64, setup_bytes, phase_number, fade_position, voice_bytes, active_number, loop_number, loop_start, loop_end, points_bytes, player_bytes, record_of, place_of, record_bytes, queue_bytes, leg_bytes};

@@ -78,7 +78,7 @@ impl Player {
     }
 
     // What an event does; delay is the current time less the event's. It asks less of the rate than a Rate has,
-    // so the rate stays a number. A delay within 2^49, here and in `start`, is a difference of two times that the
+    // so the rate stays a number. A time within 2^49, here, in `start` and in `Turns::due`, is a difference of two times that the
     // block has worked out: a type for it would be made to be taken apart at once.
     #[tactic(auto, unfolding(crate::specs::Events::apply))]
     pub fn apply(self, kind: Kind, delay: Timestamp, rate: usize) -> Player

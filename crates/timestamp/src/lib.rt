@@ -105,6 +105,7 @@ impl Timestamp {
         self < other
     }
 
+    // This and the next have rawdio's names, each a call of std's own for its sign.
     pub fn sub(self, other: Timestamp) -> Result<Timestamp, Refusal>
         ensures { told result ≡ minus self.bits other.bits }
     {
@@ -125,6 +126,7 @@ impl Timestamp {
         Timestamp { bits: 0 }
     }
 
+    // This and the next have rawdio's names, with the bits as their promise: a `From` would have no clause of its own.
     pub fn from_raw_i64(raw_value: i64) -> Timestamp
         ensures { result.bits ≡ raw_value }
     {
@@ -241,7 +243,7 @@ pub fn frames_of(t: Timestamp, rate: usize) -> f64
     to_seconds(t.bits) * (rate as f64)
 }
 
-// The floor of S.
+// The floor of S. This and the next are rawdio's two roundings, a line each with its own promise.
 pub fn frame_at(t: Timestamp, rate: usize) -> usize
     requires { rate ≤ 96000 }
     ensures { result ≡ frame_at rate t.bits }

@@ -198,6 +198,7 @@ impl Trial<'_> {
             channels: self.channels,
             block: 0,
         };
+        // The file has the step's number, and a match is plainest: each step reads on by itself.
         match reader.number(0, 1) {
             1 => command(reader, writer, &mut self.leg),
             2 => block(reader, writer, entries, lent, &mut self.leg),

@@ -1,5 +1,6 @@
 // Each op's call of the port, answered as its number and its result, zeros on a refusal. The op numbers are the oracle's,
-// and so are an order's: a match on them is the list's own form.
+// and so are an order's: a match on them is the list's own form. Numbers by `as`:
+// 64 bits are a usize's, and std has no `From` of it.
 use crate::row::Row;
 use laws::Refusal;
 use sample_location::{SampleLocation, SampleRange};
