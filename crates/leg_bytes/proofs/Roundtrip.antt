@@ -22,7 +22,8 @@ use Rattle.sampler_processor.specs.declared.Leg.{Leg}
 use Rattle.words.specs.Digits.{bytes_of}
 use Rattle.words.proofs.Digits.{little_bytes}
 use Rattle.leg_bytes.specs.Write.{bits_of, i64, phase_number, fade_position, active_number, loop_number, loop_start, loop_end, zero_time, record_of, zero_record, place_of, record_bytes, places_bytes, leg_bytes}
-use Rattle.leg_bytes.specs.Read.{number_at, time_at, setup_at, phase_of, phase_good, voice_at, active_of, points_at, kind_of, kind_good, event_at, blank_at, place_at, events_at, places_good, player_at, queue_at, read_leg, VoiceRead, PointsRead, PlayerRead, EventRead, QueueRead, LegRead}
+use Rattle.sampler_voice.specs.Voices.{numbered}
+use Rattle.leg_bytes.specs.Read.{number_at, time_at, setup_at, phase_good, voice_at, active_of, points_at, kind_of, kind_good, event_at, blank_at, place_at, events_at, places_good, player_at, queue_at, read_leg, VoiceRead, PointsRead, PlayerRead, EventRead, QueueRead, LegRead}
 use Rattle.leg_bytes.specs.Fitting.{Time, VoiceFits, ActiveFits, Fitting}
 use Rattle.leg_bytes.proofs.Stores.{length_places}
 
@@ -52,7 +53,7 @@ time_there s at t e f = ap (λ (z : ℤ). record { bits = z }) (ap as_i64 (bits_
 
 -- ---- phases, the active voice, points
 
-phase_back : (p : Phase) → phase_of (phase_number p) (fade_position p) ≡ p
+phase_back : (p : Phase) → numbered (phase_number p) (fade_position p) ≡ p
 phase_back Stopped = refl
 phase_back (FadingIn i) = refl
 phase_back Playing = refl

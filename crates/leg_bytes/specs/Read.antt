@@ -9,8 +9,7 @@ use Rattle.sampler_event.specs.Events.{blank_event}
 use Rattle.sampler_event.specs.Record.{little, time_from}
 use Rattle.event_processor.specs.declared.Queue.{Queue}
 use Rattle.sampler_voice.specs.declared.Voice.{Voice}
-use Rattle.sampler_voice.specs.declared.Phase.{Phase}
-use Rattle.sampler_voice.specs.declared.Phase.TheVariants.{Stopped, FadingIn, Playing, FadingOut}
+use Rattle.sampler_voice.specs.Voices.{numbered}
 use Rattle.sampler_player.specs.declared.Points.{Points}
 use Rattle.sampler_player.specs.declared.Points.TheVariants.{Absent, Between}
 use Rattle.sampler_player.specs.declared.Setup.{Setup}
@@ -29,9 +28,6 @@ setup_at s = record { rate = number_at s 0 4; channels = number_at s 4 1; frames
 
 -- ---- a voice: malformed are "a phase above 3, a fade position in a phase that has none"
 
-abbrev pub phase_of : ℕ → ℕ → Phase
-phase_of k f = cond (k == 1) (FadingIn f) (cond (k == 2) Playing (cond (k == 3) (FadingOut f) Stopped))
-
 abbrev pub phase_good : ℕ → ℕ → Bool
 phase_good k f = cond (k == 1) true (cond (k == 3) true (cond (nat_lt k 4) (f == 0) false))
 
@@ -44,7 +40,7 @@ abbrev pub voice_at : List ℕ → ℕ → VoiceRead
 voice_at s at =
     let k = number_at s at 1 in
     let f = number_at s (at + 1) 8 in
-    record { good = phase_good k f; voice = record { position = number_at s (at + 9) 8; phase = phase_of k f } }
+    record { good = phase_good k f; voice = record { position = number_at s (at + 9) 8; phase = numbered k f } }
 
 -- ---- "active above 2"
 abbrev pub active_of : ℕ → Option ℕ

@@ -3,7 +3,8 @@
 // Numbers by `as`: 64 bits are a usize's, and std has no `From` of it.
 ghost use Rattle.std.specs.Prelude.{◌≡◌, ◌<◌, ◌≤◌, nat_lt};
 ghost use Rattle.std.specs.Bool.{then_some};
-ghost use Rattle.leg_bytes.specs.Read.{time_at, setup_at, phase_of, phase_good, voice_at, active_of, points_at, player_at, kind_of, kind_good, event_at, blank_at, place_at, queue_at, leg_of};
+ghost use Rattle.sampler_voice.specs.Voices.{numbered};
+ghost use Rattle.leg_bytes.specs.Read.{time_at, setup_at, phase_good, voice_at, active_of, points_at, player_at, kind_of, kind_good, event_at, blank_at, place_at, queue_at, leg_of};
 
 use event_processor::Queue;
 use sampler_event::{Event, Kind};
@@ -32,7 +33,7 @@ fn setup_at(bytes: &[u8]) -> Setup
 // ---- a voice
 
 fn phase_of(kind: u64, fade: usize) -> Option<Phase>
-    ensures { result ≡ then_some (phase_good kind fade) (phase_of kind fade) }
+    ensures { result ≡ then_some (phase_good kind fade) (numbered kind fade) }
 {
     match (kind, fade) {
         (0 | 2, 0) | (1 | 3, _) => Some(Phase::numbered(kind, fade)),

@@ -1,7 +1,7 @@
 -- What a float is as a time, or as a whole number of frames, by any fraction a / c that it equals.
 -- The idea: `closest` and the quotient depend on the value alone (`closest_same`, `div_same`). Assumes nothing.
-use Rattle.std.proofs.Common.{◌≡◌, ℕ, ◌+◌, ◌*◌, ◌/◌, ◌^◌, ◌<◌, Bool, true, false, sym, refl, ap, ◌∙◌, ap₂, true≢false, mul_right_comm, arith}
-use lib.Ieee.{Float, nan, inf, fin, up, down}
+use Rattle.std.proofs.Common.{◌≡◌, ℕ, ◌+◌, ◌*◌, ◌/◌, ◌^◌, ◌<◌, Bool, true, false, sym, refl, ap, ◌∙◌, ap₂, true≢false, mul_right_comm, pos, arith}
+use lib.Ieee.{Float, nan, inf, fin, binary64, up, down, of_bits}
 use lib.Ieee.Fits.{down_pos}
 use lib.Ieee.Exact.{HasValue}
 use lib.Ieee.Nearest.{closest, closest_same, div_same}
@@ -44,3 +44,8 @@ round_of_neg nan a c h = absurd h
 round_of_neg (inf s') a c h = absurd h
 round_of_neg (fin true m e) a c h = refl
 round_of_neg (fin false m e) a c h = absurd (true≢false (sym h.0))
+
+-- the float that a second's units are divided by
+pub two_to_32 : of_bits binary64 0x41f0_0000_0000_0000 ≡ fin false 1 (pos 32)
+unfolding of_bits
+two_to_32 = refl

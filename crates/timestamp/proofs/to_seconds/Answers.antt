@@ -5,11 +5,8 @@ use lib.Ieee.{Float, fin, binary64, round, div, of_int, of_bits}
 use mir.ValLaws.{to_z-of_z}
 use Rattle.timestamp.specs.Time.{seconds}
 use Rattle.laws.proofs.Fit.{part_32}
+use Rattle.timestamp.proofs.Values.{two_to_32}
 use Rattle.timestamp.proofs.to_seconds.Goals as goal
-
-two_to_32 : of_bits binary64 0x41f0_0000_0000_0000 ≡ fin false 1 (pos 32)
-unfolding of_bits
-two_to_32 = refl
 
 is : (z : ℤ) → SFits w64 z → div binary64 (of_int binary64 z) (fin false 1 (pos 32)) ≡ seconds z
 unfolding seconds of_int

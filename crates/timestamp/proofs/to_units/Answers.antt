@@ -1,15 +1,12 @@
 -- `timestamp::to_units` meets its contract.
 -- The idea: the product with 2 ^ 32 is exact (`scaled`). Assumes nothing.
-use Rattle.std.proofs.Common.{◌≡◌, false, T, pos, sym, refl, ap, ◌∙◌, subst, le_trans, le_of_eq, mul-one}
-use lib.Ieee.{Float, fin, binary64, lt, mul, of_bits}
+use Rattle.std.proofs.Common.{false, T, pos, sym, ap, ◌∙◌, subst, le_trans, le_of_eq, mul-one}
+use lib.Ieee.{Float, fin, binary64, lt, mul}
 use lib.Ieee.Positive.{num, den, positive, le→cross}
 use lib.Ieee.Nearest.{closest}
 use Rattle.timestamp.proofs.Fixed.{Scaled, scaled}
+use Rattle.timestamp.proofs.Values.{two_to_32}
 use Rattle.timestamp.proofs.to_units.Goals as goal
-
-two_to_32 : of_bits binary64 0x41f0_0000_0000_0000 ≡ fin false 1 (pos 32)
-unfolding of_bits
-two_to_32 = refl
 
 of : (c : goal.Start) → Scaled c.args.a
 of c = scaled c.args.a (subst T (sym c.well_formed.0.1) tt) c.requires.above_zero (le_trans (le_of_eq (sym (mul-one (num c.args.a)))) (le→cross c.args.a (fin false 1 (pos 31)) c.requires.above_zero tt c.requires.below_limit))
