@@ -2,7 +2,7 @@
 use Rattle.std.specs.Prelude.{ℕ, ◌+◌, ◌^◌, Bool, cond, nat_lt, Result, Ok, Err}
 use Rattle.sample_location.specs.declared.SampleLocation.{SampleLocation}
 use Rattle.sample_location.specs.declared.SampleRange.{SampleRange}
-use Rattle.std.specs.declared.ops.Range.{Range}
+use Rattle.sample_location.specs.declared.Range.{Range}
 use Rattle.laws.specs.declared.Refusal.{Refusal}
 use Rattle.laws.specs.Rules.{number_of}
 
@@ -23,7 +23,7 @@ pub record LocationAnswer : Type 0 where
 
 pub record RangeAnswer : Type 0 where
   pub number : ℕ
-  pub range : Range ℕ
+  pub range : Range
 
 -- a place, and no refusal
 abbrev pub located : SampleLocation → LocationAnswer
@@ -46,7 +46,7 @@ abbrev pub told : Result SampleLocation Refusal → LocationAnswer
 told (Ok l) = located l
 told (Err r) = unlocated (number_of r)
 
-abbrev pub told_range : Result (Range ℕ) Refusal → RangeAnswer
+abbrev pub told_range : Result Range Refusal → RangeAnswer
 told_range (Ok a) = record { number = 0; range = a }
 told_range (Err r) = unranged (number_of r)
 

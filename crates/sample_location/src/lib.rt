@@ -6,17 +6,23 @@ ghost use Rattle.std.specs.Prelude.{◌≡◌};
 ghost use Rattle.sample_location.specs.Location.{told, told_range, place, moved_frames, moved_channels, rectangle, range_from};
 
 use laws::Refusal;
-use std::ops::Range;
+
+// The Rust's `std::ops::Range<usize>`: start is in it, end is not. Of our own, since std's is not Copy.
+#[derive(Clone, Copy, Debug, PartialEq, Eq)]
+pub struct Range {
+    pub start: usize,
+    pub end: usize,
+}
 
 // What has a channel's and a frame's form has rawdio's two names, each with its promise: one generic function would be no
 // plainer than the two lines.
 
 // One rule for channels and frames: count of them, from start on.
-fn range_from(start: usize, count: usize) -> Result<Range<usize>, Refusal>
+fn range_from(start: usize, count: usize) -> Result<Range, Refusal>
     ensures { told_range result ≡ range_from start count }
 {
     let end = start.checked_add(count).ok_or(Refusal::NoResult)?;
-    Ok(start..end)
+    Ok(Range { start, end })
 }
 
 // ---- sample_location.rs
@@ -118,13 +124,13 @@ impl SampleRange {
         }
     }
 
-    pub fn channel_range(self) -> Result<Range<usize>, Refusal>
+    pub fn channel_range(self) -> Result<Range, Refusal>
         ensures { told_range result ≡ range_from self.channel self.channel_count }
     {
         range_from(self.channel, self.channel_count)
     }
 
-    pub fn frame_range(self) -> Result<Range<usize>, Refusal>
+    pub fn frame_range(self) -> Result<Range, Refusal>
         ensures { told_range result ≡ range_from self.frame self.frame_count }
     {
         range_from(self.frame, self.frame_count)

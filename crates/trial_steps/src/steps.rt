@@ -135,7 +135,7 @@ fn placed(reader: &mut Reader, writer: &mut Writer, leg: &mut Leg) -> Option<()>
     ensures goes { IsSome result → Follows leg.old 3 leg.new }
 {
     hold(reader, 491)?;
-    *leg = leg_bytes::read(reader.part(1, 490))?;
+    *leg = leg_bytes::read(reader.part(1, 490)).ok()?;
     reader.pass(491);
     writer.put(1, 0);
     Some(())

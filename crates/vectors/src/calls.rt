@@ -11,7 +11,7 @@ use timestamp::{Rate, Timestamp};
 // A call's result in 64 bits, or its refusal.
 type Reply = Result<u64, Refusal>;
 
-fn timed(t: Timestamp) -> u64 {
+pub fn timed(t: Timestamp) -> u64 {
     words::signed_bits(t.as_raw_i64())
 }
 

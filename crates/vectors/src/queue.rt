@@ -1,9 +1,10 @@
 // The ops of the command queue. Its state goes from row to row: a row 30 starts it anew, a row 31 is
 // a command, a row 32 takes the first event before an end.
+use crate::calls::timed;
 use crate::row::Row;
 use event_processor::Queue;
 use laws::Refusal;
-use sampler_event::{Event, Limits, Record, time_from as time};
+use sampler_event::{Event, Kind, Limits, time_from as time};
 
 #[derive(Drop)]
 pub struct State {
@@ -33,19 +34,18 @@ fn commanded(r: Row, limits: Limits) -> Result<Event, Refusal> {
 
 // ---- the first event before an end
 
-// What the row says of it: none, or an event. A row that says neither has no answer.
-fn expected(r: Row) -> Option<Option<Event>> {
-    if (r.number == 0) & (r.b == 0) & (r.c == 0) & (r.result == 0) {
-        return Some(None);
-    }
-    let record = Record {
-        kind: u16::try_from(r.number).ok()?,
-        time: time(r.result),
-        first: time(r.b),
-        second: time(r.c),
+// What the list has of an event: its kind's number, its time, its positions. By a match of its own and not by `try_from`,
+// which read the event: a slip there would be in both, and show nothing.
+fn told(event: Event) -> [u64; 4] {
+    let (kind, first, second) = match event.get_event_type() {
+        Kind::Start(position) => (1, timed(position), 0),
+        Kind::StartImmediate => (2, 0, 0),
+        Kind::Stop => (3, 0, 0),
+        Kind::EnableLoop(start, end) => (4, timed(start), timed(end)),
+        Kind::CancelLoop => (5, 0, 0),
+        Kind::CancelAll => (6, 0, 0),
     };
-    let event = Event::try_from(record).ok()?;
-    Some(Some(event))
+    [kind, timed(event.get_time()), first, second]
 }
 
 // ---- the state
@@ -90,7 +90,8 @@ impl State {
     fn take(&mut self, r: Row) -> bool {
         let taken = self.queue.next_event_before(time(r.a));
         self.queue = taken.queue;
-        expected(r) == Some(taken.first)
+        // no event is zeros
+        taken.first.map_or([0; 4], told) == [r.number, r.result, r.b, r.c]
     }
 
     // Plays a row: whether the port's answer is the row's.
