@@ -6,7 +6,7 @@ pub mod Tests
 -- Rules: what it says that a call is not refused.
 pub mod Rules
 -- Round: what `round` does to a fraction, in whole numbers. Operations: the operations on floats by fractions. Fit: values that a format has. Whole: the nearest whole
--- number, cast. Error: several roundings.
+-- number by one sum with 2 ^ 52. Error: several roundings.
 pub mod Round
 pub mod Operations
 pub mod Fit

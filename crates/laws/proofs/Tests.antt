@@ -52,6 +52,16 @@ nlt_pow (inf s) w p h = absurd p
 nlt_pow (fin true m e) w p h = absurd p
 nlt_pow (fin false m e) w p h = subst (λ (k : ℕ). k * down e ≤ m * up e) (one-mul (2 ^ w)) (subst (λ (k : ℕ). 1 * 2 ^ w * down e ≤ k) (mul-one (m * up e)) (nltb→le (m * up e * 1) (1 * 2 ^ w * down e) h))
 
+pub minus_one_lt : (x : Float) → T (positive x) → T (lt (fin true 1 (pos 0)) x)
+unfolding lt
+minus_one_lt nan p = absurd p
+minus_one_lt (inf s) p = absurd p
+minus_one_lt (fin true m e) p = absurd p
+minus_one_lt (fin false m e) p = lt→ltb 0 (1 * down e + m * up e * 1) (some (down e) (m * up e) (down_pos e))
+  where
+    some : (d n : ℕ) → 0 < d → 0 < 1 * d + n * 1
+    some d n h = omega arith
+
 pub lt_of_value : (x : Float) (a c w : ℕ) → 0 < c → HasValue x false a c → a < 2 ^ w * c → T (lt x (fin false 1 (pos w)))
 unfolding lt
 lt_of_value nan a c w C v h = absurd v

