@@ -8,21 +8,20 @@ ghost use Rattle.sampler_fade.specs.Bits.{bits48000, bits8000};
 ghost use Rattle.sampler_fade.specs.Entry.{table_of, cleaned_fade, fade_in, fade_out};
 ghost use Rattle.sampler_fade.specs.FadeRule.{FadeRule};
 
-use std::num::f32_from_bits_with_nan;
-
 mod tables;
 
 // ---- the tables
 
-// The float of each pattern. No `map`: it asks for a bound on N, which nothing here says.
-fn floats<const N: usize>(bits: &[u32; N]) -> [f32; N]
-    ensures { result ≡ table_of bits.now }
+// The float of each pattern. Below the infinity's, no pattern is a NaN's: with a test for one at each a table takes more
+// than four times as long. A slice and no array of N: what a call asks is then plain to see.
+fn fill(table: &mut [f32], bits: &[u32])
+    requires same_length { length table.old ≡ length bits.now }
+    requires below_infinity { (i : ℕ) → get_or bits.now i 0 < 0x7f80_0000 }
+    ensures { table.new ≡ table_of bits.now }
 {
-    let mut floats = [0.0; N];
     for (i, pattern) in bits.iter().enumerate() {
-        floats[i] = f32_from_bits_with_nan(*pattern);
+        table[i] = f32::from_bits(*pattern);
     }
-    floats
 }
 
 // ---- sampler_fade.rs
@@ -39,7 +38,9 @@ pub fn table_48000() -> [f32; 2400]
     ensures value { result ≡ table_of bits48000 }
     ensures fade_rule { FadeRule result }
 {
-    floats(&tables::BITS_48000)
+    let mut table = [0.0; 2400];
+    fill(&mut table, &tables::BITS_48000);
+    table
 }
 
 // The same of 8,000.
@@ -47,7 +48,9 @@ pub fn table_8000() -> [f32; 400]
     ensures value { result ≡ table_of bits8000 }
     ensures fade_rule { FadeRule result }
 {
-    floats(&tables::BITS_8000)
+    let mut table = [0.0; 400];
+    fill(&mut table, &tables::BITS_8000);
+    table
 }
 
 // An entry as it counts: a bad one is 1.0, and a NaN fails either test. `sampler_voice` has its like for a

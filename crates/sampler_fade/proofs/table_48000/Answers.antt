@@ -7,9 +7,13 @@ use Rattle.sampler_fade.proofs.FadeRule.{finite, made}
 use Rattle.sampler_fade.proofs.Table.{passes48000}
 use Rattle.sampler_fade.proofs.table_48000.Goals as goal
 
+pub fill-requires : goal.fill-requires
+unfolding bits48000
+fill-requires c = record { same_length = refl; below_infinity = finite passes48000 refl }
+
 pub returns : goal.returns
 unfolding bits48000
-returns c = let whole = made passes48000 refl c.floats.ensures in
+returns c = let whole = made passes48000 refl c.fill.ensures in
     record {
       value = whole.0;
       fade_rule = whole.1;
