@@ -1,5 +1,6 @@
 -- Which bytes are a leg, by docs/TRIAL.md's "What is malformed", and which leg they are. Definitions only.
 use Rattle.std.specs.Prelude.{ℕ, zero, suc, ◌+◌, ◌-◌, ◌*◌, Bool, true, false, cond, ◌&&◌, ◌||◌, List, [], ◌∷◌, length, take, drop, replicate, ◌==◌, nat_le, nat_lt, slice_set, Option, None, Some, Result, Ok, Err}
+use Rattle.std.specs.Bool.{then_some}
 use Rattle.timestamp.specs.declared.Timestamp.{Timestamp}
 use Rattle.sampler_event.specs.declared.Kind.{Kind}
 use Rattle.sampler_event.specs.declared.Kind.TheVariants.{Start, StartImmediate, Stop, EnableLoop, CancelLoop, CancelAll}
@@ -155,6 +156,10 @@ read_leg s =
     let p = player_at s in
     let q = queue_at s in
     record { good = length s == 490 && (p.good && q.good); leg = record { setup = setup_at s; player = p.player; queue = q.queue } }
+
+-- the leg, where the bytes are one
+abbrev pub leg_of : List ℕ → Option Leg
+leg_of s = then_some (read_leg s).good (read_leg s).leg
 
 -- what is told by each case of what the code answers
 abbrev pub told : Result Leg Leg → LegRead

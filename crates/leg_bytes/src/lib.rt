@@ -2,6 +2,7 @@
 // and document 01 calls damaged, is read as it stands.
 #![tactic(auto)]
 
+mod malformed;
 mod reading;
 mod writing;
 

@@ -1,9 +1,12 @@
-// A leg from its bytes, and whether they are one. `at` is at most 490 in the contracts, so that no place
+// A leg from its bytes, where they are one. `at` is at most 490 in the contracts, so that no place
 // passes 64 bits: a slice from there on would ask for its length instead.
 // Numbers by `as`: 64 bits are a usize's, and std has no `From` of it.
-ghost use Rattle.std.specs.Prelude.{◌≡◌, ◌<◌, ◌≤◌};
-ghost use Rattle.leg_bytes.specs.Read.{number_at, time_at, setup_at, phase_good, voice_at, active_of, points_at, player_at, kind_of, event_at, blank_at, place_at, queue_at, read_leg, told};
+ghost use Rattle.std.specs.Prelude.{◌≡◌, ◌<◌, ◌≤◌, nat_lt};
+ghost use Rattle.std.specs.Bool.{then_some};
+ghost use Rattle.sampler_voice.specs.Voices.{numbered};
+ghost use Rattle.leg_bytes.specs.Read.{time_at, setup_at, phase_good, voice_at, active_of, points_at, player_at, kind_of, kind_good, event_at, blank_at, place_at, queue_at, read_leg, leg_of, told};
 
+use crate::malformed;
 use event_processor::Queue;
 use sampler_event::{Event, Kind};
 use sampler_player::{Player, Points, Setup};
@@ -11,13 +14,13 @@ use sampler_processor::Leg;
 use sampler_voice::{Phase, Voice};
 use timestamp::Timestamp;
 
-fn time_at(bytes: &[u8], at: usize) -> Timestamp
+pub fn time_at(bytes: &[u8], at: usize) -> Timestamp
     ensures { result ≡ time_at bytes.now at }
 {
     sampler_event::time_from(words::number(bytes, at, 8))
 }
 
-fn setup_at(bytes: &[u8]) -> Setup
+pub fn setup_at(bytes: &[u8]) -> Setup
     ensures { result ≡ setup_at bytes.now }
 {
     Setup {
@@ -28,214 +31,160 @@ fn setup_at(bytes: &[u8]) -> Setup
     }
 }
 
-// ---- a voice. Each part is read, well formed or not, and whether it is stands beside it
+// ---- a voice
 
-fn phase_good(kind: u64, fade: usize) -> bool
-    ensures { result ≡ phase_good kind fade }
+fn phase_of(kind: u64, fade: usize) -> Option<Phase>
+    ensures { result ≡ then_some (phase_good kind fade) (numbered kind fade) }
 {
-    matches!((kind, fade), (0 | 2, 0) | (1 | 3, _))
-}
-
-fn voice_at(bytes: &[u8], at: usize) -> Voice
-    requires { at ≤ 490 }
-    ensures { result ≡ (voice_at bytes.now at).voice }
-{
-    let kind = words::number(bytes, at, 1);
-    let fade = words::number(bytes, at + 1, 8) as usize;
-    Voice {
-        phase: Phase::numbered(kind, fade),
-        position: words::number(bytes, at + 9, 8) as usize,
+    match (kind, fade) {
+        (0 | 2, 0) | (1 | 3, _) => Some(Phase::numbered(kind, fade)),
+        _ => None,
     }
 }
 
-fn voice_good(bytes: &[u8], at: usize) -> bool
+fn voice_at(bytes: &[u8], at: usize) -> Option<Voice>
     requires { at ≤ 490 }
-    ensures { result ≡ (voice_at bytes.now at).good }
+    ensures { result ≡ then_some (voice_at bytes.now at).good (voice_at bytes.now at).voice }
 {
-    phase_good(
-        words::number(bytes, at, 1),
-        words::number(bytes, at + 1, 8) as usize,
-    )
+    let kind = words::number(bytes, at, 1);
+    let fade = words::number(bytes, at + 1, 8) as usize;
+    Some(Voice {
+        phase: phase_of(kind, fade)?,
+        position: words::number(bytes, at + 9, 8) as usize,
+    })
 }
 
 // ---- what plays
 
 // Which voice is active, if any.
-fn active_of(number: u64) -> Option<usize>
-    ensures { result ≡ active_of number }
+fn active_of(number: u64) -> Option<Option<usize>>
+    ensures { result ≡ then_some (nat_lt number 3) (active_of number) }
 {
-    let i = number.checked_sub(1)?;
-    Some(i as usize)
-}
-
-fn points_at(bytes: &[u8]) -> Points
-    ensures { result ≡ (points_at bytes.now 48).points }
-{
-    match words::number(bytes, 48, 1) {
-        0 => Points::Absent,
-        _ => Points::Between(time_at(bytes, 49), time_at(bytes, 57)),
+    match number {
+        0 => Some(None),
+        1 => Some(Some(0)),
+        2 => Some(Some(1)),
+        _ => None,
     }
 }
 
-fn points_good(bytes: &[u8]) -> bool
-    ensures { result ≡ (points_at bytes.now 48).good }
+fn points_at(bytes: &[u8]) -> Option<Points>
+    ensures { result ≡ then_some (points_at bytes.now 48).good (points_at bytes.now 48).points }
 {
     let any = words::number(bytes, 48, 1);
     let from = words::number(bytes, 49, 8);
     let end = words::number(bytes, 57, 8);
-    matches!((any, from, end), (0, 0, 0) | (1, _, _))
-}
-
-fn player_at(bytes: &[u8]) -> Player
-    ensures { result ≡ (player_at bytes.now).player }
-{
-    let voices = [voice_at(bytes, 13), voice_at(bytes, 30)];
-    Player {
-        voices,
-        active: active_of(words::number(bytes, 47, 1)),
-        points: points_at(bytes),
-        position: time_at(bytes, 65),
-        start: time_at(bytes, 73),
-        completed: words::number(bytes, 81, 8) as usize,
+    match (any, from, end) {
+        (0, 0, 0) => Some(Points::Absent),
+        (1, _, _) => Some(Points::Between(time_at(bytes, 49), time_at(bytes, 57))),
+        _ => None,
     }
 }
 
 #[tactic(auto, unfolding(crate::specs::Read::player_at))]
-fn player_good(bytes: &[u8]) -> bool
-    ensures { result ≡ (player_at bytes.now).good }
+fn player_at(bytes: &[u8]) -> Option<Player>
+    ensures { result ≡ then_some (player_at bytes.now).good (player_at bytes.now).player }
 {
-    voice_good(bytes, 13)
-        && voice_good(bytes, 30)
-        && words::number(bytes, 47, 1) < 3
-        && points_good(bytes)
+    let first = voice_at(bytes, 13)?;
+    let second = voice_at(bytes, 30)?;
+    Some(Player {
+        voices: [first, second],
+        active: active_of(words::number(bytes, 47, 1))?,
+        points: points_at(bytes)?,
+        position: time_at(bytes, 65),
+        start: time_at(bytes, 73),
+        completed: words::number(bytes, 81, 8) as usize,
+    })
 }
 
 // ---- the queue
 
-fn kind_of(kind: u64, first: Timestamp, second: Timestamp) -> Kind
-    ensures { result ≡ kind_of kind first second }
-{
-    match kind {
-        2 => Kind::StartImmediate,
-        3 => Kind::Stop,
-        4 => Kind::EnableLoop(first, second),
-        5 => Kind::CancelLoop,
-        6 => Kind::CancelAll,
-        _ => Kind::Start(first),
-    }
-}
-
-// A place that is used. No `Event::try_from`, which wants a StartImmediate's time to be 0: a damaged leg may have another.
-fn event_at(bytes: &[u8], at: usize) -> Event
+// A place that is used: of a kind that there is, which has the positions that are not 0. No `Event::try_from`, which wants a
+// StartImmediate's time to be 0: a damaged leg may have another.
+fn event_at(bytes: &[u8], at: usize) -> Option<Event>
     requires { at ≤ 490 }
-    ensures { result ≡ (event_at bytes.now at).event }
+    ensures { result ≡ then_some (event_at bytes.now at).good (event_at bytes.now at).event }
 {
-    let kind = words::number(bytes, at, 1);
-    Event {
-        time: time_at(bytes, at + 1),
-        kind: kind_of(kind, time_at(bytes, at + 9), time_at(bytes, at + 17)),
-    }
-}
-
-// Whether it is of a kind that there is, which has the positions that are not 0.
-fn event_good(bytes: &[u8], at: usize) -> bool
-    requires { at ≤ 490 }
-    ensures { result ≡ (event_at bytes.now at).good }
-{
-    let kind = words::number(bytes, at, 1);
+    let number = words::number(bytes, at, 1);
     let first = words::number(bytes, at + 9, 8);
     let second = words::number(bytes, at + 17, 8);
-    matches!(
-        (kind, first, second),
-        (1, _, 0) | (2 | 3 | 5 | 6, 0, 0) | (4, _, _)
-    )
+    let kind = match (number, first, second) {
+        (1, _, 0) => Kind::Start(time_at(bytes, at + 9)),
+        (2, 0, 0) => Kind::StartImmediate,
+        (3, 0, 0) => Kind::Stop,
+        (4, _, _) => Kind::EnableLoop(time_at(bytes, at + 9), time_at(bytes, at + 17)),
+        (5, 0, 0) => Kind::CancelLoop,
+        (6, 0, 0) => Kind::CancelAll,
+        _ => return None,
+    };
+    Some(Event {
+        time: time_at(bytes, at + 1),
+        kind,
+    })
 }
 
-// Whether a place that is not used is zeros.
-fn blank_good(bytes: &[u8], at: usize) -> bool
+// A place that is not used: zeros, which are the blank event here.
+fn blank_at(bytes: &[u8], at: usize) -> Option<Event>
     requires { at ≤ 490 }
-    ensures { result ≡ (blank_at bytes.now at).good }
+    ensures { result ≡ then_some (blank_at bytes.now at).good (blank_at bytes.now at).event }
 {
     let kind = words::number(bytes, at, 1);
     let time = words::number(bytes, at + 1, 8);
     let first = words::number(bytes, at + 9, 8);
     let second = words::number(bytes, at + 17, 8);
-    matches!((kind, time, first, second), (0, 0, 0, 0))
+    match (kind, time, first, second) {
+        (0, 0, 0, 0) => Some(Event::blank()),
+        _ => None,
+    }
 }
 
-fn count_at(bytes: &[u8]) -> usize
-    ensures { result ≡ number_at bytes.now 89 1 }
-{
-    words::number(bytes, 89, 1) as usize
-}
-
-fn place_at(bytes: &[u8], i: usize) -> Event
+fn place_at(bytes: &[u8], i: usize) -> Option<Event>
     requires { i < 16 }
-    ensures { result ≡ (place_at bytes.now i).event }
+    ensures { result ≡ then_some (place_at bytes.now i).good (place_at bytes.now i).event }
 {
-    if i < count_at(bytes) {
+    let count = words::number(bytes, 89, 1) as usize;
+    if i < count {
         event_at(bytes, 90 + 25 * i)
     } else {
-        Event::blank()
+        blank_at(bytes, 90 + 25 * i)
     }
 }
 
-fn place_good(bytes: &[u8], i: usize) -> bool
-    requires { i < 16 }
-    ensures { result ≡ (place_at bytes.now i).good }
-{
-    if i < count_at(bytes) {
-        event_good(bytes, 90 + 25 * i)
-    } else {
-        blank_good(bytes, 90 + 25 * i)
-    }
-}
-
-fn queue_at(bytes: &[u8]) -> Queue
-    ensures { result ≡ (queue_at bytes.now).queue }
+fn queue_at(bytes: &[u8]) -> Option<Queue>
+    ensures { result ≡ then_some (queue_at bytes.now).good (queue_at bytes.now).queue }
 {
     let mut events = [Event::blank(); 16];
     for (i, event) in events.iter_mut().enumerate() {
-        *event = place_at(bytes, i);
+        *event = place_at(bytes, i)?;
     }
-    Queue {
+    Some(Queue {
         events,
-        count: count_at(bytes),
-    }
-}
-
-fn queue_good(bytes: &[u8]) -> bool
-    ensures { result ≡ (queue_at bytes.now).good }
-{
-    let mut good = true;
-    for i in 0..16 {
-        good &= place_good(bytes, i);
-    }
-    good
+        count: words::number(bytes, 89, 1) as usize,
+    })
 }
 
 // ---- the leg
 
-fn leg_at(bytes: &[u8]) -> Leg
-    ensures { result ≡ (read_leg bytes.now).leg }
+// The leg that the bytes are, or none where they are malformed.
+fn well_formed(bytes: &[u8]) -> Option<Leg>
+    ensures { result ≡ leg_of bytes.now }
 {
-    Leg {
-        setup: setup_at(bytes),
-        player: player_at(bytes),
-        queue: queue_at(bytes),
+    if bytes.len() != 490 {
+        return None;
     }
-}
-
-fn leg_good(bytes: &[u8]) -> bool
-    ensures { result ≡ (read_leg bytes.now).good }
-{
-    (bytes.len() == 490) & (player_good(bytes) & queue_good(bytes))
+    Some(Leg {
+        setup: setup_at(bytes),
+        player: player_at(bytes)?,
+        queue: queue_at(bytes)?,
+    })
 }
 
 // The leg that the bytes are; an `Err` where they are malformed, with the leg that their numbers give all the same.
 pub fn read(bytes: &[u8]) -> Result<Leg, Leg>
     ensures { told result ≡ read_leg bytes.now }
 {
-    let leg = leg_at(bytes);
-    if leg_good(bytes) { Ok(leg) } else { Err(leg) }
+    match well_formed(bytes) {
+        Some(leg) => Ok(leg),
+        None => Err(malformed::leg_at(bytes)),
+    }
 }

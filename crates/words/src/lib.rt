@@ -23,6 +23,7 @@ pub fn signed_bits(z: i64) -> u64
 // ---- floats: each a call of std's own for its width, so that one of both widths would be no plainer
 
 // Every NaN is one NaN.
+#[tactic(auto, using(crate::proofs::Floats::reads_nan))]
 pub fn float(bits: u32) -> f32
     ensures { result ≡ of_bits binary32 bits }
 {
