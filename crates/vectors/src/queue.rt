@@ -6,7 +6,7 @@ use event_processor::Queue;
 use laws::Refusal;
 use sampler_event::{Event, Kind, Limits, time_from as time};
 
-#[derive(Drop)]
+#[derive(Clone, Copy)]
 pub struct State {
     pub rate: u64,
     pub fade: u64,

@@ -1,7 +1,6 @@
 -- `sampler_fade::table_48000` meets its contract, and the table keeps the rule.
 -- The idea: antt compares the source's constants with the definition's; the test on the patterns is computed once. Assumes nothing.
 use mathlib.Core.Path.{refl}
-use lib.Dec.{lit<}
 use Rattle.sampler_fade.specs.Bits.{bits48000}
 use Rattle.sampler_fade.proofs.FadeRule.{finite, made}
 use Rattle.sampler_fade.proofs.Table.{passes48000}

@@ -1,6 +1,6 @@
 -- `trial_steps::steps::placed` meets its contract.
 -- The idea: the leg is the one that `leg_bytes::read` finds, of bytes that are well formed. Assumes nothing.
-use Rattle.std.proofs.Common.{◌≡◌, true, Result, Ok, Err, None, Some, sym, ap, ◌∙◌, subst}
+use Rattle.std.proofs.Common.{◌≡◌, true, Result, Ok, Err, Some, sym, ap, ◌∙◌, subst}
 use Rattle.std.proofs.lemmas.Option.{none-some, same_Some}
 use Rattle.std.specs.Result.{result_ok}
 use Rattle.sampler_processor.specs.declared.Leg.{Leg}
