@@ -1,4 +1,4 @@
--- What `filled` leaves, where it reads and where it does not.
+-- What `fill` leaves, where it reads and where it does not.
 -- The idea: the bytes that are held are moved to the front, and the read leaves them there. Assumes nothing.
 use Rattle.std.proofs.Common.{◌≡◌, ℕ, ◌+◌, ◌-◌, ◌<◌, ◌≤◌, min, List, length, take, drop, sym, refl, ap, ◌∙◌, inl, inr, le_refl, zero-add, arith, length-drop, drop_of_length-le, take-take}
 use Rattle.std.proofs.lemmas.Bool.{cases_lt}

@@ -1,6 +1,6 @@
 // What malformed bytes give all the same, part by part: each number where the layout has it, with what is no kind or phase
-// taken for the first of them. Beside `reading` and not in it, which stops at the first part that is malformed: reading on
-// there would make a well-formed leg take up to twice as long.
+// taken for the first of them. Beside `reading` and not in it, which stops at the first part that is malformed: with both in
+// one pass a well-formed leg took up to twice as long.
 ghost use Rattle.std.specs.Prelude.{◌≡◌, ◌<◌, ◌≤◌};
 ghost use Rattle.leg_bytes.specs.Read.{voice_at, active_of, points_at, player_at, kind_of, place_at, queue_at, read_leg};
 

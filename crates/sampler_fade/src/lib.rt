@@ -12,8 +12,8 @@ mod tables;
 
 // ---- the tables
 
-// The float of each pattern. Below the infinity's, no pattern is a NaN's: with a test for one at each a table takes more
-// than four times as long. A slice and no array of N: what a call asks is then plain to see.
+// The float of each pattern. Below the infinity's, no pattern is a NaN's: with a test for one at each a table takes some
+// four times as long. A slice and no array of N: what a call asks is then plain to see.
 fn fill(table: &mut [f32], bits: &[u32])
     requires same_length { length table.old ≡ length bits.now }
     requires below_infinity { (i : ℕ) → get_or bits.now i 0 < 0x7f80_0000 }

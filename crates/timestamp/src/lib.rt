@@ -37,7 +37,7 @@ fn to_seconds(t: i64) -> f64
 
 // z, which is above zero, rounded to the nearest whole number, a tie to the even one. Below 2^52 the
 // sum with 2^52 is that rounding, since from there to 2^53 an f64 is a whole number. From 2^52 on z
-// is whole. std's `round_ties_even` in its place makes T take 1.7 times as long.
+// is whole. With std's `round_ties_even` in its place T takes some 1.6 times as long.
 fn nearest_whole(z: f64) -> u64
     requires above_zero { T (positive z) }
     requires below_limit { T (Ieee.lt z (fin false 1 (pos 64))) }
@@ -80,7 +80,7 @@ fn whole_part(x: f64) -> usize
 }
 
 // A number of frames below 2^52 rounded, a half away from zero; 0 for a negative one. Twice x is exact, and its whole
-// part halved upwards is the rounding. std's `round` in its place takes twice as long.
+// part halved upwards is the rounding. With std's `round` in its place it takes more than twice as long.
 fn half_away(x: f64) -> usize
     requires { T (Ieee.lt x (fin false 1 (pos 52))) }
     ensures { result ≡ round_of x }
