@@ -2,7 +2,7 @@
 // and document 01 calls damaged, is read as it stands.
 #![tactic(auto)]
 
-mod malformed;
+mod parts;
 mod reading;
 mod writing;
 

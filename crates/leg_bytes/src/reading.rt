@@ -3,55 +3,27 @@
 // Numbers by `as`: 64 bits are a usize's, and std has no `From` of it.
 ghost use Rattle.std.specs.Prelude.{◌≡◌, ◌<◌, ◌≤◌, nat_lt};
 ghost use Rattle.std.specs.Bool.{then_some};
-ghost use Rattle.sampler_voice.specs.Voices.{numbered};
-ghost use Rattle.leg_bytes.specs.Read.{time_at, setup_at, phase_good, voice_at, active_of, points_at, player_at, kind_of, kind_good, event_at, blank_at, place_at, queue_at, read_leg, leg_of, told};
+ghost use Rattle.leg_bytes.specs.Read.{voice_at, active_of, points_at, player_at, event_at, blank_at, place_at, queue_at, read_leg, leg_of, told};
 
-use crate::malformed;
+use crate::parts::{self, setup_at, time_at};
 use event_processor::Queue;
-use sampler_event::{Event, Kind};
-use sampler_player::{Player, Points, Setup};
+use sampler_event::Event;
+use sampler_player::{Player, Points};
 use sampler_processor::Leg;
-use sampler_voice::{Phase, Voice};
-use timestamp::Timestamp;
-
-pub fn time_at(bytes: &[u8], at: usize) -> Timestamp
-    ensures { result ≡ time_at bytes.now at }
-{
-    sampler_event::time_from(words::number(bytes, at, 8))
-}
-
-pub fn setup_at(bytes: &[u8]) -> Setup
-    ensures { result ≡ setup_at bytes.now }
-{
-    Setup {
-        rate: words::number(bytes, 0, 4) as usize,
-        channels: words::number(bytes, 4, 1) as usize,
-        frames: words::number(bytes, 5, 4) as usize,
-        fade: words::number(bytes, 9, 4) as usize,
-    }
-}
+use sampler_voice::Voice;
 
 // ---- a voice
-
-fn phase_of(kind: u64, fade: usize) -> Option<Phase>
-    ensures { result ≡ then_some (phase_good kind fade) (numbered kind fade) }
-{
-    match (kind, fade) {
-        (0 | 2, 0) | (1 | 3, _) => Some(Phase::numbered(kind, fade)),
-        _ => None,
-    }
-}
 
 fn voice_at(bytes: &[u8], at: usize) -> Option<Voice>
     requires { at ≤ 490 }
     ensures { result ≡ then_some (voice_at bytes.now at).good (voice_at bytes.now at).voice }
 {
     let kind = words::number(bytes, at, 1);
-    let fade = words::number(bytes, at + 1, 8) as usize;
-    Some(Voice {
-        phase: phase_of(kind, fade)?,
-        position: words::number(bytes, at + 9, 8) as usize,
-    })
+    let fade = words::number(bytes, at + 1, 8);
+    match (kind, fade) {
+        (0 | 2, 0) | (1 | 3, _) => Some(parts::voice_at(bytes, at)),
+        _ => None,
+    }
 }
 
 // ---- what plays
@@ -60,11 +32,10 @@ fn voice_at(bytes: &[u8], at: usize) -> Option<Voice>
 fn active_of(number: u64) -> Option<Option<usize>>
     ensures { result ≡ then_some (nat_lt number 3) (active_of number) }
 {
-    match number {
-        0 => Some(None),
-        1 => Some(Some(0)),
-        2 => Some(Some(1)),
-        _ => None,
+    if number < 3 {
+        Some(parts::active_of(number))
+    } else {
+        None
     }
 }
 
@@ -75,8 +46,7 @@ fn points_at(bytes: &[u8]) -> Option<Points>
     let from = words::number(bytes, 49, 8);
     let end = words::number(bytes, 57, 8);
     match (any, from, end) {
-        (0, 0, 0) => Some(Points::Absent),
-        (1, _, _) => Some(Points::Between(time_at(bytes, 49), time_at(bytes, 57))),
+        (0, 0, 0) | (1, _, _) => Some(parts::points_at(bytes)),
         _ => None,
     }
 }
@@ -108,19 +78,10 @@ fn event_at(bytes: &[u8], at: usize) -> Option<Event>
     let number = words::number(bytes, at, 1);
     let first = words::number(bytes, at + 9, 8);
     let second = words::number(bytes, at + 17, 8);
-    let kind = match (number, first, second) {
-        (1, _, 0) => Kind::Start(time_at(bytes, at + 9)),
-        (2, 0, 0) => Kind::StartImmediate,
-        (3, 0, 0) => Kind::Stop,
-        (4, _, _) => Kind::EnableLoop(time_at(bytes, at + 9), time_at(bytes, at + 17)),
-        (5, 0, 0) => Kind::CancelLoop,
-        (6, 0, 0) => Kind::CancelAll,
-        _ => return None,
-    };
-    Some(Event {
-        time: time_at(bytes, at + 1),
-        kind,
-    })
+    match (number, first, second) {
+        (1, _, 0) | (2 | 3 | 5 | 6, 0, 0) | (4, _, _) => Some(parts::event_at(bytes, at)),
+        _ => None,
+    }
 }
 
 // A place that is not used: zeros, which are the blank event here.
@@ -185,6 +146,6 @@ pub fn read(bytes: &[u8]) -> Result<Leg, Leg>
 {
     match well_formed(bytes) {
         Some(leg) => Ok(leg),
-        None => Err(malformed::leg_at(bytes)),
+        None => Err(parts::leg_at(bytes)),
     }
 }

@@ -1,8 +1,8 @@
--- `leg_bytes::malformed::player_at` meets its contract.
+-- `leg_bytes::parts::player_at` meets its contract.
 -- The idea: the calls' equations. Assumes nothing.
 use Rattle.std.proofs.Common.{refl}
 use Rattle.leg_bytes.specs.Read.{player_at}
-use Rattle.leg_bytes.proofs.malformed.player_at.Goals as goal
+use Rattle.leg_bytes.proofs.parts.player_at.Goals as goal
 
 pub returns : goal.returns
 unfolding player_at

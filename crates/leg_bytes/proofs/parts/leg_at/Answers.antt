@@ -1,8 +1,8 @@
--- `leg_bytes::malformed::leg_at` meets its contract.
+-- `leg_bytes::parts::leg_at` meets its contract.
 -- The idea: the calls' equations. Assumes nothing.
 use Rattle.std.proofs.Common.{refl}
 use Rattle.leg_bytes.specs.Read.{read_leg}
-use Rattle.leg_bytes.proofs.malformed.leg_at.Goals as goal
+use Rattle.leg_bytes.proofs.parts.leg_at.Goals as goal
 
 pub returns : goal.returns
 unfolding read_leg

@@ -1,8 +1,8 @@
--- `leg_bytes::malformed::queue_at` meets its contract.
+-- `leg_bytes::parts::queue_at` meets its contract.
 -- The idea: after i turns i places are read. Assumes nothing.
 use Rattle.std.proofs.Common.{◌≡◌, refl, add-one, arith}
 use Rattle.leg_bytes.specs.Read.{queue_at}
-use Rattle.leg_bytes.proofs.malformed.queue_at.Goals as goal
+use Rattle.leg_bytes.proofs.parts.queue_at.Goals as goal
 
 pub loop-i-preserved : goal.loop-i-preserved
 loop-i-preserved c =

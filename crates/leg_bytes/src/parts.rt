@@ -1,18 +1,34 @@
-// What malformed bytes give all the same, part by part: each number where the layout has it, with what is no kind or phase
-// taken for the first of them. Beside `reading` and not in it, which stops at the first part that is malformed: with both in
-// one pass a well-formed leg took up to twice as long.
+// The value of each part of a leg's bytes, well formed or not: each number where the layout has it, with what is no kind or
+// phase taken for the first of them. `reading` has the tests, and stops at the first part that is malformed: with both in one
+// pass a well-formed leg took up to twice as long.
 ghost use Rattle.std.specs.Prelude.{◌≡◌, ◌<◌, ◌≤◌};
-ghost use Rattle.leg_bytes.specs.Read.{voice_at, active_of, points_at, player_at, kind_of, place_at, queue_at, read_leg};
+ghost use Rattle.leg_bytes.specs.Read.{time_at, setup_at, voice_at, active_of, points_at, player_at, kind_of, event_at, place_at, queue_at, read_leg};
 
-use crate::reading::{setup_at, time_at};
 use event_processor::Queue;
 use sampler_event::{Event, Kind};
-use sampler_player::{Player, Points};
+use sampler_player::{Player, Points, Setup};
 use sampler_processor::Leg;
 use sampler_voice::{Phase, Voice};
 use timestamp::Timestamp;
 
-fn voice_at(bytes: &[u8], at: usize) -> Voice
+pub fn time_at(bytes: &[u8], at: usize) -> Timestamp
+    ensures { result ≡ time_at bytes.now at }
+{
+    sampler_event::time_from(words::number(bytes, at, 8))
+}
+
+pub fn setup_at(bytes: &[u8]) -> Setup
+    ensures { result ≡ setup_at bytes.now }
+{
+    Setup {
+        rate: words::number(bytes, 0, 4) as usize,
+        channels: words::number(bytes, 4, 1) as usize,
+        frames: words::number(bytes, 5, 4) as usize,
+        fade: words::number(bytes, 9, 4) as usize,
+    }
+}
+
+pub fn voice_at(bytes: &[u8], at: usize) -> Voice
     requires { at ≤ 490 }
     ensures { result ≡ (voice_at bytes.now at).voice }
 {
@@ -24,14 +40,14 @@ fn voice_at(bytes: &[u8], at: usize) -> Voice
     }
 }
 
-fn active_of(number: u64) -> Option<usize>
+pub fn active_of(number: u64) -> Option<usize>
     ensures { result ≡ active_of number }
 {
     let i = number.checked_sub(1)?;
     Some(i as usize)
 }
 
-fn points_at(bytes: &[u8]) -> Points
+pub fn points_at(bytes: &[u8]) -> Points
     ensures { result ≡ (points_at bytes.now 48).points }
 {
     match words::number(bytes, 48, 1) {
@@ -67,19 +83,26 @@ fn kind_of(kind: u64, first: Timestamp, second: Timestamp) -> Kind
     }
 }
 
-fn place_at(bytes: &[u8], i: usize) -> Event
-    requires { i < 16 }
-    ensures { result ≡ (place_at bytes.now i).event }
+// A place that is used.
+pub fn event_at(bytes: &[u8], at: usize) -> Event
+    requires { at ≤ 490 }
+    ensures { result ≡ (event_at bytes.now at).event }
 {
-    let count = words::number(bytes, 89, 1) as usize;
-    if count <= i {
-        return Event::blank();
-    }
-    let at = 90 + 25 * i;
     let kind = words::number(bytes, at, 1);
     Event {
         time: time_at(bytes, at + 1),
         kind: kind_of(kind, time_at(bytes, at + 9), time_at(bytes, at + 17)),
+    }
+}
+
+fn place_at(bytes: &[u8], i: usize) -> Event
+    requires { i < 16 }
+    ensures { result ≡ (place_at bytes.now i).event }
+{
+    if i < words::number(bytes, 89, 1) as usize {
+        event_at(bytes, 90 + 25 * i)
+    } else {
+        Event::blank()
     }
 }
 
